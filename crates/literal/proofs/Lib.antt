@@ -1,0 +1,5 @@
+pub mod Bits
+pub mod Tens
+pub mod Quotient
+pub mod Nearest
+pub mod Examples

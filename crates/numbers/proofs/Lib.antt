@@ -1,0 +1,4 @@
+pub mod Whole
+pub mod Join
+pub mod Value
+pub mod Examples

@@ -1,0 +1,5 @@
+pub mod Stores
+pub mod Room
+pub mod Put
+pub mod Field
+pub mod Rest

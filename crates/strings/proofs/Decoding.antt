@@ -1,0 +1,85 @@
+-- Decoding a string: what each test decides. Assumes nothing.
+use mathlib.Core.Path.{_≡_, refl, sym, ap, _∙_, subst⁻¹}
+use mathlib.Core.Bool.{true, false}
+use mathlib.Core.List.{List, _∷_, _++_}
+use Prim.Native.Nat.{ℕ, _+_, _≤_, _<_}
+use native.Mathlib.Numerals.{add-one}
+use native.Mathlib.Omega.{arith}
+use borrow.Author.Tests.{lt-ltb, le-ltb, ne-eqb}
+use lib.ListN.{length, getD, drop, drop-of-length-le}
+use lib.Seq.{drop-cons}
+use Rattle.text.specs.Text.{isText}
+use Rattle.strings.specs.declared.Ended.{Ended}
+use Rattle.strings.specs.declared.Ended.the-variants.{Closed, Broken}
+use Rattle.strings.specs.declared.Decoded.{Decoded}
+use Rattle.strings.specs.Strings.{readOf, begun, decodedFrom, isClosed, Decode, refused, pickDecode, fitted, decodeAt, decodeOf, Decoding}
+use Rattle.strings.proofs.Sizes.{decoded-length}
+
+-- a refusal says length 0, and leaves the buffer as it was
+pub refusal : (d : Decode) (o : ℕ) (r : Decoded) (buffer : List ℕ) → r ≡ record { outcome = o; length = 0 } → d ≡ refused o → Decoding d r buffer buffer
+refusal d o r buffer f e =
+    subst⁻¹ (λ (y : Decoded). Decoding d y buffer buffer) f
+    (subst⁻¹ (λ (x : Decode). Decoding x (record { outcome = o; length = 0 }) buffer buffer) e (record { outcome-is = refl; length-is = refl; buffer-is = refl }))
+
+-- a success says the length of the bytes, and the buffer has them in front
+pub success : (d : Decode) (w : List ℕ) (l : ℕ) (before after : List ℕ) → d ≡ record { outcome = 0; bytes = w } → length w ≡ l → after ≡ w ++ drop (length w) before
+    → Decoding d (record { outcome = 0; length = l }) before after
+success d w l before after e c k =
+    subst⁻¹ (λ (x : Decode). Decoding x (record { outcome = 0; length = l }) before after) e (record { outcome-is = refl; length-is = sym c; buffer-is = k })
+
+-- what a string's reading decides, with its bytes in s
+abbrev decides : List ℕ → ℕ → Ended → Decode
+decides s room x = pickDecode (isClosed x) (fitted (decodedFrom s false) room) (refused 9)
+
+-- each answer, from the tests that lead to it
+module _ (source : List ℕ) (start room : ℕ) where
+  pub too-long : 65535 < length source → decodeOf source start room ≡ refused 4
+  unfolding decodeOf
+  too-long h = simp (lt-ltb _ _ h)
+
+  pub no-text : length source ≤ 65535 → isText source ≡ false → decodeOf source start room ≡ refused 3
+  unfolding decodeOf
+  no-text h t = simp (le-ltb _ _ h, t)
+
+  module _ (h : length source ≤ 65535) (t : isText source ≡ true) where
+    from-start : decodeOf source start room ≡ decodeAt (drop start source) room
+    unfolding decodeOf
+    from-start = simp (le-ltb _ _ h, t)
+
+    pub no-start : length source ≤ start → decodeOf source start room ≡ refused 9
+    no-start i = from-start ∙ (let e : decodeAt (drop start source) room ≡ refused 9 = rw (drop-of-length-le source i) in e)
+
+    module _ (i : start < length source) where
+      at-byte : decodeAt (drop start source) room ≡ decodeAt (getD source start 0 ∷ drop (start + 1) source) room
+      at-byte = rw (add-one, drop-cons source start 0)
+
+      pub no-quote : (getD source start 0 ≡ 34 → ⊥) → decodeOf source start room ≡ refused 9
+      no-quote q =
+          from-start ∙ at-byte
+          ∙ (let e : decodeAt (getD source start 0 ∷ drop (start + 1) source) room ≡ refused 9 = simp (ne-eqb _ _ q) in e)
+
+      module _ (q : getD source start 0 ≡ 34) (x : Ended) (r : x ≡ readOf (drop (start + 1) source) begun) where
+        reads : decodeOf source start room ≡ decides (drop (start + 1) source) room x
+        reads = from-start ∙ at-byte
+            ∙ ap (λ (b : ℕ). decodeAt (b ∷ drop (start + 1) source) room) q
+            ∙ ap (decides (drop (start + 1) source) room) (sym r)
+
+        pub broken : (n m : ℕ) → x ≡ Broken n m → decodeOf source start room ≡ refused 9
+        broken n m e = reads ∙ ap (decides (drop (start + 1) source) room) e
+
+        module _ (n m l : ℕ) (e : x ≡ Closed n m l) where
+          pub counts : length (decodedFrom (drop (start + 1) source) false) ≡ l
+          counts = decoded-length (drop (start + 1) source) n m l (sym r ∙ e)
+
+          fits : decodeOf source start room ≡ fitted (decodedFrom (drop (start + 1) source) false) room
+          fits = reads ∙ ap (decides (drop (start + 1) source) room) e
+
+          pub no-room : room < l → decodeOf source start room ≡ refused 10
+          no-room k =
+              let j : room < length (decodedFrom (drop (start + 1) source) false) = omega (arith, counts) in
+              fits ∙ (let f : fitted (decodedFrom (drop (start + 1) source) false) room ≡ refused 10 = simp (lt-ltb _ _ j) in f)
+
+          pub decoded : l ≤ room → decodeOf source start room ≡ record { outcome = 0; bytes = decodedFrom (drop (start + 1) source) false }
+          decoded k =
+              let j : length (decodedFrom (drop (start + 1) source) false) ≤ room = omega (arith, counts) in
+              fits ∙ (let f : fitted (decodedFrom (drop (start + 1) source) false) room ≡ record { outcome = 0; bytes = decodedFrom (drop (start + 1) source) false } = simp (le-ltb _ _ j) in f)

@@ -1,0 +1,5 @@
+pub mod Turn
+pub mod Sizes
+pub mod Writing
+pub mod Decoding
+pub mod Examples

@@ -1,0 +1,84 @@
+use borrow.Author.Needs.{needs}
+use Rattle.token.proofs.three.Statement.{statement}
+use Rattle.token.proofs.three.Tie as tie
+
+slice-aggregate-equal : tie.Need-slice-aggregate-equal
+slice-aggregate-equal c = search needs
+
+equal-requires : tie.Need-equal-requires
+equal-requires c κs = search needs
+
+slice-aggregate-equal-2 : tie.Need-slice-aggregate-equal-2
+slice-aggregate-equal-2 c = search needs
+
+equal-requires-2 : tie.Need-equal-requires-2
+equal-requires-2 c κs = search needs
+
+slice-aggregate-equal-3 : tie.Need-slice-aggregate-equal-3
+slice-aggregate-equal-3 c = search needs
+
+equal-requires-3 : tie.Need-equal-requires-3
+equal-requires-3 c κs = search needs
+
+slice-aggregate-equal-4 : tie.Need-slice-aggregate-equal-4
+slice-aggregate-equal-4 c = search needs
+
+equal-requires-4 : tie.Need-equal-requires-4
+equal-requires-4 c κs = search needs
+
+slice-aggregate-equal-5 : tie.Need-slice-aggregate-equal-5
+slice-aggregate-equal-5 c = search needs
+
+equal-requires-5 : tie.Need-equal-requires-5
+equal-requires-5 c κs = search needs
+
+slice-aggregate-equal-6 : tie.Need-slice-aggregate-equal-6
+slice-aggregate-equal-6 c = search needs
+
+equal-requires-6 : tie.Need-equal-requires-6
+equal-requires-6 c κs = search needs
+
+pick-requires : tie.Need-pick-requires
+pick-requires c κs = search needs
+
+pick-requires-2 : tie.Need-pick-requires-2
+pick-requires-2 c κs = search needs
+
+pick-requires-3 : tie.Need-pick-requires-3
+pick-requires-3 c κs = search needs
+
+pick-requires-4 : tie.Need-pick-requires-4
+pick-requires-4 c κs = search needs
+
+pick-requires-5 : tie.Need-pick-requires-5
+pick-requires-5 c κs = search needs
+
+pick-requires-6 : tie.Need-pick-requires-6
+pick-requires-6 c κs = search needs
+
+returns : tie.Need-returns
+returns c = cc
+
+pub three-spec : {M : Type 1} → statement M
+three-spec =
+    tie.close
+    (tie.spec
+    slice-aggregate-equal
+    equal-requires
+    slice-aggregate-equal-2
+    equal-requires-2
+    slice-aggregate-equal-3
+    equal-requires-3
+    slice-aggregate-equal-4
+    equal-requires-4
+    slice-aggregate-equal-5
+    equal-requires-5
+    slice-aggregate-equal-6
+    equal-requires-6
+    pick-requires
+    pick-requires-2
+    pick-requires-3
+    pick-requires-4
+    pick-requires-5
+    pick-requires-6
+    returns)

@@ -1,0 +1,181 @@
+//! The oracle: Grotsky's lexer and parser in their original Rust, for tests to compare with.
+//!
+//! The six modules are byte for byte copies from the repository mliezun/grotsky, commit
+//! f3837697bb, under the MIT licence (see `LICENSE`). `SHA256SUMS` holds their sums, and a test
+//! compares them. Everything that is ours stands in this file, outside the copies.
+//!
+//! The package has to be built with overflow checks off, as the workspace's profiles do: with
+//! them on, `previous` panics after a statement that is followed by two newlines.
+
+// The copies keep their own style: neither the compiler's nor clippy's advice on it is wanted,
+// and no tool may reformat them.
+#[allow(warnings, clippy::all)]
+#[rustfmt::skip]
+pub mod expr;
+#[allow(warnings, clippy::all)]
+#[rustfmt::skip]
+pub mod lexer;
+#[allow(warnings, clippy::all)]
+#[rustfmt::skip]
+pub mod parser;
+#[allow(warnings, clippy::all)]
+#[rustfmt::skip]
+pub mod state;
+#[allow(warnings, clippy::all)]
+#[rustfmt::skip]
+pub mod stmt;
+#[allow(warnings, clippy::all)]
+#[rustfmt::skip]
+pub mod token;
+
+use std::cell::Cell;
+use std::panic::{self, AssertUnwindSafe};
+use std::sync::Once;
+use std::thread;
+
+use lexer::Lexer;
+use parser::Parser;
+use state::{InterpreterError, InterpreterState};
+use stmt::Stmt;
+use token::TokenData;
+
+/// What the state holds when the reading of a script has ended.
+#[derive(Debug, Clone)]
+pub struct Reading {
+    pub tokens: Vec<TokenData>,
+    pub errors: Vec<InterpreterError>,
+    /// The finished top-level statements, also those before a stop.
+    pub stmts: Vec<Stmt>,
+    pub stop: Stop,
+}
+
+/// Where the original panicked, if it did.
+#[derive(Debug, Clone, Copy, PartialEq, Eq)]
+pub enum Stop {
+    /// Nowhere: parsing reached the end, with errors or without.
+    None,
+    /// In `number`, at the end of the source; nothing was parsed.
+    Lexing,
+    /// After a recorded error: a fatal one, or a failed `consume` whose result is unwrapped.
+    Parsing,
+}
+
+/// Lexes a fresh state, then parses it, even if lexing recorded errors.
+///
+/// The two kinds of panic that belong to the original's behaviour are caught and told by `stop`.
+/// Any other panic would be a mistake in this crate's picture of the original, and panics here.
+pub fn read(source: &str) -> Reading {
+    let mut state = InterpreterState::new(source.to_string());
+    let stop = if !ends(|| Lexer::new(&mut state).scan(), &["index out of bounds"]) {
+        Stop::Lexing
+    } else if !ends(
+        || Parser::new(&mut state).parse(),
+        &["explicit panic", "called `Option::unwrap()` on a `None`"],
+    ) {
+        Stop::Parsing
+    } else {
+        Stop::None
+    };
+    Reading {
+        tokens: state.tokens,
+        errors: state.errors,
+        stmts: state.stmts,
+        stop,
+    }
+}
+
+thread_local! {
+    /// Whether this thread is running the original just now.
+    static READING: Cell<bool> = const { Cell::new(false) };
+}
+
+/// Runs a part of the original: `true` if it ends, `false` if it panics with a message that
+/// begins like one of those expected.
+fn ends(part: impl FnOnce(), expected: &[&str]) -> bool {
+    keep_expected_panics_quiet();
+    READING.set(true);
+    let outcome = panic::catch_unwind(AssertUnwindSafe(part));
+    READING.set(false);
+    let Err(payload) = outcome else { return true };
+    let message = if let Some(text) = payload.downcast_ref::<String>() {
+        text.as_str()
+    } else {
+        payload.downcast_ref::<&str>().copied().unwrap_or("")
+    };
+    assert!(
+        expected.iter().any(|start| message.starts_with(start)),
+        "the original panicked in an unexpected way: {message}"
+    );
+    false
+}
+
+/// Puts a panic hook before the usual one that prints nothing on a thread that is inside `read`.
+/// Panics elsewhere, such as a failing test's, are printed as before.
+fn keep_expected_panics_quiet() {
+    static DONE: Once = Once::new();
+    DONE.call_once(|| {
+        let usual = panic::take_hook();
+        panic::set_hook(Box::new(move |info| {
+            if !READING.get() {
+                usual(info);
+            }
+        }));
+    });
+}
+
+/// Runs `f` on a thread with a stack of 1 GiB, reserved but not touched, for scripts that nest
+/// deeply: the original reads, compares, prints and drops its trees by recursion.
+///
+/// All that `f` makes is dropped on that thread, save for what it returns: let it return
+/// something flat, not a tree. A panic in `f` goes on in the caller.
+pub fn on_large_stack<R: Send>(f: impl FnOnce() -> R + Send) -> R {
+    thread::scope(|scope| {
+        thread::Builder::new()
+            .name("large stack".to_string())
+            .stack_size(1 << 30)
+            .spawn_scoped(scope, f)
+            .expect("no thread with a large stack")
+            .join()
+            .unwrap_or_else(|payload| panic::resume_unwind(payload))
+    })
+}
+
+/// The messages of the original in the order of their numbers, 1 to 29. First the lexer's, then
+/// the parser's, each where it first stands in its file; 10 counts where `fn_stmt` has it.
+pub const MESSAGES: [&str; 29] = [
+    "'!' cannot be used here",
+    "Illegal character",
+    "Closing \" was expected",
+    "Expected new line",
+    "Expected variable name",
+    "Expected '{' at this position",
+    "Expected '}' at this position",
+    "Expected function name",
+    "Expect '(' after function name",
+    "Max number of parameters is 255",
+    "Expected function parameter",
+    "Expect ')' after expression",
+    "Expected '(' after function name",
+    "Expect function parameter",
+    "Expected semicolon",
+    "Empty expression or let was expected at this position",
+    "Expected 'in'",
+    "A catch block was expected at this position",
+    "Statement only allowed for use inside loop",
+    "Expected ']' at end of list",
+    "Expected '}' at the end of dict",
+    "Expected ':' after key",
+    "Undefined statement",
+    "Expected ']' at the end of slice",
+    "Expected property name after '.'",
+    "Expect ')' after arguments",
+    "Max number of arguments is 255",
+    "Undefined expression",
+    "Keyword 'super' is only valid for property accessing",
+];
+
+/// The number of a message, 1 to 29, or nothing if the original has no such text.
+pub fn message_number(text: &str) -> Option<u32> {
+    let index = MESSAGES.iter().position(|message| *message == text)?;
+    Some(index as u32 + 1)
+}
