@@ -1,9 +1,9 @@
 -- A number put together from its digits, the point and the digits after it: the ways in which reading it ends. Assumes nothing.
 use mathlib.Core.Path.{_≡_, refl, sym, ap, _∙_}
 use mathlib.Core.Bool.{Bool, true, false, cond, _&&_}
-use mathlib.Core.List.{List, _∷_, _++_}
+use mathlib.Core.List.{List, [], _∷_, _++_}
 use Prim.Native.Nat.{ℕ, suc, _+_, _-_, _≤_, _<_}
-use native.Mathlib.Nat.{add-zero, zero-add}
+use native.Mathlib.Nat.{add-zero, zero-add, le-refl}
 use native.Mathlib.Numerals.{add-one}
 use native.Mathlib.Omega.{arith}
 use borrow.Author.Tests.{eqb-true, eqb-false, eq-eqb, ne-eqb, lt-ltb}
@@ -11,6 +11,7 @@ use lib.Dec.{eqb, ltb}
 use lib.ListN.{length, getD, take, drop, length-drop, drop-of-length-le}
 use lib.Seq.{drop-cons, drop-drop, take-add}
 use Rattle.spans.specs.Span.{isDigit, run}
+use Rattle.spans.proofs.Run.{run-le}
 use Rattle.numbers.specs.declared.Numeral.{Numeral}
 use Rattle.numbers.specs.Number.{front, pointSize, pointed, numberSize, wholeOf, capped, numberOf, numberAt}
 use Rattle.numbers.proofs.Whole.{cap-whole, whole-append}
@@ -104,3 +105,16 @@ no-point s p h e = ap pointSize (drop-cons s p 0 h) ∙ ap (λ (b : Bool). cond 
 
 pub no-byte : (s : List ℕ) (p : ℕ) → length s ≤ p → pointSize (drop p s) ≡ 0
 no-byte s p h = ap pointSize (drop-of-length-le s h)
+
+-- ---- a number lies within the source
+point-le : (s : List ℕ) → pointSize s ≤ length s
+point-le [] = le-refl 0
+point-le (x ∷ r) = go (eqb x 46)
+  where
+    go : (b : Bool) → cond b (suc (run isDigit r)) 0 ≤ suc (length r)
+    go true = omega (arith, run-le isDigit r)
+    go false = omega arith
+
+pub number-le : (s : List ℕ) → numberSize s ≤ length s
+number-le s =
+    omega (arith, run-le isDigit s, point-le (drop (run isDigit s) s), length-drop (run isDigit s) s)

@@ -1,0 +1,48 @@
+-- `lexer::close` meets its contract. Assumes nothing.
+use mathlib.Core.Path.{_≡_, refl, ap, _∙_}
+use mathlib.Core.List.{[]}
+use Rattle.literal.specs.declared.Words.{Words}
+use Rattle.lexer.specs.Lex.{noValue}
+use Rattle.lexer.specs.Steps.{onIn, emitTable, emitIn}
+use Rattle.lexer.proofs.Flow.{does-either, does-other}
+use borrow.Author.Needs.{needs}
+use Rattle.lexer.proofs.close.Statement.{statement}
+use Rattle.lexer.proofs.close.Tie as tie
+use Rattle.lexer.proofs.close.Reads as reads
+use Rattle.lexer.proofs.close.Lts as lts
+use Rattle.lexer.proofs.emit.Reads as emit-reads
+use Rattle.literal.proofs.none.Reads as none-reads
+
+-- src/lib.rt:164:54
+none-requires : tie.Need-none-requires
+none-requires c κs = search needs
+
+-- src/lib.rt:164:9
+emit-requires : tie.Need-emit-requires
+emit-requires c κs = search needs
+
+-- src/lib.rt:164:9
+same-length : tie.Need-same-length
+same-length c = search needs
+
+-- src/lib.rt:164:9
+returns : tie.Need-returns
+returns c =
+    let a = c .before .before .before .before .before .before .before .args in
+    let e = c .before .before .emit in
+    does-either _ (emitIn (a .l) 1 0 0 noValue (a .tokens .now) []) (onIn (a .l) (a .tokens .now) []) _ _ _ (c .before .before .before .before .before .if1 .taken)
+    (record {
+      next-is = e .ensures .0;
+      tokens-are = e .ensures .1 ∙ ap (λ (w : Words). emitTable (a .l) 1 0 0 w (a .tokens .now)) (c .before .before .before .none .ensures);
+      errors-are = refl;
+    })
+
+-- src/lib.rt:157:1
+returns-2 : tie.Need-returns-2
+returns-2 c =
+    let a = c .before .before .args in
+    does-other _ (emitIn (a .l) 1 0 0 noValue (a .tokens .now) []) (onIn (a .l) (a .tokens .now) []) _ _ _ (c .if1 .left)
+    (record { next-is = refl; tokens-are = refl; errors-are = refl })
+
+pub close-spec : {M : Type 1} → statement M
+close-spec = tie.close (tie.spec none-requires emit-requires same-length returns returns-2)

@@ -1,0 +1,3 @@
+pub mod Items
+pub mod Lex
+pub mod Steps

@@ -1,0 +1,161 @@
+-- The second phase once more over the lent tables themselves, step by step as the code goes: what the lexer's private functions promise.
+-- A reader of the product's meaning needs only Items and Lex; that both say the same is proved.
+use Prim.Native.Nat.{ℕ, _+_, _≤_}
+use mathlib.Core.Path.{_≡_}
+use mathlib.Core.Bool.{Bool, true, false, not, _&&_}
+use mathlib.Core.List.{List, [], _∷_}
+use lib.Dec.{ltb, eqb}
+use Rattle.literal.specs.declared.Span.{Span}
+use Rattle.literal.specs.declared.Words.{Words}
+use Rattle.literal.specs.declared.Literal.the-variants as literals
+use Rattle.literal.specs.Value.{valueOf, wordsOf}
+use Rattle.records.specs.declared.TokenData.{TokenData}
+use Rattle.records.specs.declared.InterpreterError.{InterpreterError}
+use Rattle.records.specs.Table.{room, put, tokenWidth, errorWidth}
+use Rattle.records.specs.Words.{tokenWords, errorWords}
+use Rattle.lexer.specs.declared.Lexer.{Lexer}
+use Rattle.lexer.specs.declared.Scanned.{Scanned}
+use Rattle.lexer.specs.declared.Next.{Next}
+use Rattle.lexer.specs.declared.Next.the-variants.{On, Stop}
+use Rattle.lexer.specs.declared.Item.{Item}
+use Rattle.lexer.specs.declared.Item.the-variants.{Space, Comment, Name, Text, Number, Mark, Wrong}
+use Rattle.lexer.specs.Items.{sizeOf, linesOf}
+use Rattle.lexer.specs.Lex.{noValue}
+
+-- the decoded length of a string
+abbrev pub decodedOf : Item → ℕ
+decodedOf Space = 0
+decodedOf (Comment n) = 0
+decodedOf (Name k n) = 0
+decodedOf (Text n m l) = l
+decodedOf (Number x) = 0
+decodedOf (Mark k n m) = 0
+decodedOf (Wrong e n m) = 0
+
+-- an item that lies within a source of at most 65,535 bytes: its words fit
+abbrev pub Inside : Lexer → Item → Type 0
+Inside l x = (l .current + sizeOf x ≤ 65535) × (l .line + linesOf x ≤ 65536) × (decodedOf x ≤ 65535)
+
+-- n bytes further
+abbrev pub advanced : Lexer → ℕ → Lexer
+advanced l n = record { current = l .current + n; line = l .line; tokens = l .tokens; errors = l .errors; last = l .last }
+
+-- n bytes and m newlines further, with one token more
+abbrev pub tokenMore : Lexer → ℕ → ℕ → ℕ → Lexer
+tokenMore l kind n m = record { current = l .current + n; line = l .line + m; tokens = l .tokens + 1; errors = l .errors; last = kind }
+
+-- the same, with one error more
+abbrev pub errorMore : Lexer → ℕ → ℕ → Lexer
+errorMore l n m = record { current = l .current + n; line = l .line + m; tokens = l .tokens; errors = l .errors + 1; last = l .last }
+
+-- the record of a token of n bytes that passes m newlines
+abbrev pub tokenOf : Lexer → ℕ → ℕ → ℕ → Words → TokenData
+tokenOf l kind n m w = record { kind = kind; start = l .current; length = n; line = l .line + m; sort = w .sort; low = w .low; high = w .high }
+
+-- the record of a message about bytes that pass m newlines
+abbrev pub errorOf : Lexer → ℕ → ℕ → InterpreterError
+errorOf l message m = record { message = message; line = l .line + m; pos = l .current }
+
+-- the first where the test holds, else the second
+abbrev pub pickNext : Bool → Next → Next → Next
+pickNext true a b = a
+pickNext false a b = b
+
+-- what a step does: how it goes on, and the tables afterwards
+pub record Did : Type 0 where
+  pub next : Next
+  pub tokens : List ℕ
+  pub errors : List ℕ
+
+-- the first where the test holds, else the second
+abbrev pub pickDid : Bool → Did → Did → Did
+pickDid true a b = a
+pickDid false a b = b
+
+-- nothing is written
+abbrev pub onIn : Lexer → List ℕ → List ℕ → Did
+onIn l t e = record { next = On l; tokens = t; errors = e }
+
+-- a token: how it goes on, and the token table
+abbrev pub emitNext : Lexer → ℕ → ℕ → ℕ → List ℕ → Next
+emitNext l kind n m t = pickNext (ltb (l .tokens) (room tokenWidth t)) (On (tokenMore l kind n m)) (Stop 5)
+
+abbrev pub emitTable : Lexer → ℕ → ℕ → ℕ → Words → List ℕ → List ℕ
+emitTable l kind n m w t = put tokenWidth t (l .tokens) (tokenWords (tokenOf l kind n m w))
+
+abbrev pub emitIn : Lexer → ℕ → ℕ → ℕ → Words → List ℕ → List ℕ → Did
+emitIn l kind n m w t e = record { next = emitNext l kind n m t; tokens = emitTable l kind n m w t; errors = e }
+
+-- a message: how it goes on, and the error table
+abbrev pub errorNext : Lexer → ℕ → ℕ → List ℕ → Next
+errorNext l n m e = pickNext (ltb (l .errors) (room errorWidth e)) (On (errorMore l n m)) (Stop 6)
+
+abbrev pub errorTable : Lexer → ℕ → ℕ → List ℕ → List ℕ
+errorTable l message m e = put errorWidth e (l .errors) (errorWords (errorOf l message m))
+
+-- a number with a point that runs to the last byte stops, any other is a token
+abbrev pub numberWords : Lexer → ℕ → ℕ → ℕ → Words
+numberWords l size whole places = wordsOf (valueOf whole places (record { start = l .current; length = size }))
+
+-- one item
+abbrev pub stepIn : Item → Lexer → List ℕ → List ℕ → Did
+stepIn Space l t e = onIn (advanced l 1) t e
+stepIn (Comment n) l t e = onIn (advanced l n) t e
+stepIn (Name k n) l t e = emitIn l k n 0 noValue t e
+stepIn (Text n m d) l t e = emitIn l 26 n m (wordsOf (literals.Text (record { start = l .current; length = n }) d)) t e
+stepIn (Number x) l t e =
+    pickDid (x .cut) (record { next = Stop 2; tokens = t; errors = e })
+    (emitIn l 27 (x .size) 0 (numberWords l (x .size) (x .whole) (x .places)) t e)
+stepIn (Mark k n m) l t e = emitIn l k n m noValue t e
+stepIn (Wrong message n m) l t e = record { next = errorNext l n m e; tokens = t; errors = errorTable l message m e }
+
+-- rule 7's Newline
+abbrev pub closeIn : Lexer → List ℕ → List ℕ → Did
+closeIn l t e = pickDid (ltb 0 (l .tokens) && not (eqb (l .last) 1)) (emitIn l 1 0 0 noValue t e) (onIn l t e)
+
+-- the answer with the outcome o
+abbrev pub ended : ℕ → Lexer → Scanned
+ended o l = record { outcome = o; tokens = l .tokens; errors = l .errors }
+
+-- what the lexing does: its answer, and the tables afterwards
+pub record Done : Type 0 where
+  pub answer : Scanned
+  pub tokens : List ℕ
+  pub errors : List ℕ
+
+-- on with the next state and the tables; a stop ends there
+abbrev pub thenIn : Next → List ℕ → List ℕ → Lexer → (Lexer → List ℕ → List ℕ → Done) → Done
+thenIn (On m) t e l k = k m t e
+thenIn (Stop o) t e l k = record { answer = ended o l; tokens = t; errors = e }
+
+abbrev pub andThenIn : Did → Lexer → (Lexer → List ℕ → List ℕ → Done) → Done
+andThenIn d l k = thenIn (d .next) (d .tokens) (d .errors) l k
+
+-- rule 7's EOF
+abbrev pub eofIn : Lexer → List ℕ → List ℕ → Done
+eofIn l t e = andThenIn (emitIn l 0 0 0 noValue t e) l (λ m u f. record { answer = ended 0 m; tokens = u; errors = f })
+
+-- rule 7
+abbrev pub finishIn : Lexer → List ℕ → List ℕ → Done
+finishIn l t e = andThenIn (closeIn l t e) l eofIn
+
+-- the items that are left
+abbrev pub scanIn : List Item → Lexer → List ℕ → List ℕ → Done
+scanIn [] l t e = finishIn l t e
+scanIn (x ∷ xs) l t e = andThenIn (stepIn x l t e) l (scanIn xs)
+
+-- the state at the start
+abbrev pub start : Lexer
+start = record { current = 0; line = 1; tokens = 0; errors = 0; last = 0 }
+
+-- a function's answer and tables are those of a step
+pub record Does (d : Did) (r : Next) (t e : List ℕ) : Type 0 where
+  pub next-is : r ≡ d .next
+  pub tokens-are : t ≡ d .tokens
+  pub errors-are : e ≡ d .errors
+
+-- a function's answer and tables are those of the lexing
+pub record Ends (d : Done) (r : Scanned) (t e : List ℕ) : Type 0 where
+  pub answer-is : r ≡ d .answer
+  pub tokens-are : t ≡ d .tokens
+  pub errors-are : e ≡ d .errors
