@@ -3,12 +3,11 @@ use mathlib.Core.Bool.{Bool, true, false}
 use mathlib.Core.Path.{_≡_, subst, subst⁻¹}
 use mathlib.Core.List.{List, [], _∷_}
 use Prim.Native.Nat.{ℕ, suc, _+_, _≤_, _<_}
-use native.Mathlib.Numerals.{add-one}
 use native.Mathlib.Omega.{arith}
 use lib.Dec.{eqb}
 use lib.ListN.{length, getD, drop, length-drop}
 use lib.Seq.{drop-cons}
-use Rattle.spans.specs.Span.{isAlpha, isInner, run}
+use Rattle.spans.specs.Span.{isAlpha, isInner}
 use Rattle.spans.proofs.Run.{run-le}
 use Rattle.numbers.proofs.Join.{number-le}
 use Rattle.strings.specs.declared.Ended.{Ended}

@@ -1,5 +1,5 @@
 -- How a step goes on: by a state, or by a stop; and how far it moves. Assumes nothing.
-use mathlib.Core.Path.{_≡_, refl, sym, ap, _∙_, subst, subst⁻¹}
+use mathlib.Core.Path.{_≡_, refl, sym, _∙_, subst, subst⁻¹}
 use mathlib.Core.Bool.{Bool, true, false, not, _&&_}
 use mathlib.Core.List.{List, []}
 use Prim.Native.Nat.{ℕ, _+_}
@@ -14,7 +14,7 @@ use Rattle.lexer.specs.declared.Item.{Item}
 use Rattle.lexer.specs.declared.Item.the-variants.{Space, Comment, Name, Text, Number, Mark, Wrong}
 use Rattle.lexer.specs.Items.{sizeOf, linesOf}
 use Rattle.lexer.specs.Lex.{noValue}
-use Rattle.lexer.specs.Steps.{pickNext, Did, pickDid, onIn, emitNext, emitTable, emitIn, errorNext, stepIn, closeIn, ended, Done, thenIn, eofIn, finishIn, numberWords, Does, Ends}
+use Rattle.lexer.specs.Steps.{pickNext, Did, pickDid, onIn, emitNext, emitTable, emitIn, stepIn, closeIn, ended, Done, thenIn, eofIn, finishIn, numberWords, Does, Ends}
 
 -- ---- on with the next state, or the end
 module _ (x : Next) (t e : List ℕ) (l : Lexer) (k : Lexer → List ℕ → List ℕ → Done) (r : Scanned) where

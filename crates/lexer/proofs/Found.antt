@@ -1,7 +1,7 @@
 -- What the code finds at a place of the source is the item there. Assumes nothing.
 use mathlib.Core.Path.{_≡_, refl, sym, ap, _∙_}
 use mathlib.Core.Bool.{Bool, true, false}
-use mathlib.Core.List.{List, [], _∷_}
+use mathlib.Core.List.{List, _∷_}
 use Prim.Native.Nat.{ℕ, suc, _+_, _-_, _≤_, _<_}
 use native.Mathlib.Numerals.{add-one}
 use native.Mathlib.Omega.{arith}
@@ -14,9 +14,8 @@ use Rattle.numbers.specs.Number.{numberAt}
 use Rattle.strings.specs.declared.Ended.{Ended}
 use Rattle.strings.specs.declared.Ended.the-variants.{Closed, Broken}
 use Rattle.lexer.specs.declared.Sign.{Sign}
-use Rattle.lexer.specs.declared.Item.{Item}
 use Rattle.lexer.specs.declared.Item.the-variants.{Comment, Name, Text, Number, Mark, Wrong}
-use Rattle.lexer.specs.Items.{Class, letter, digit, sign, pickClass, signOf, pickItem, nameAt, textItem, lone, pairAt, itemAs, itemAt}
+use Rattle.lexer.specs.Items.{letter, digit, sign, pickClass, signOf, pickItem, nameAt, textItem, lone, pairAt, itemAs, itemAt}
 
 -- ---- a string
 pub closed : (x : Ended) (n m l : ℕ) → x ≡ Closed n m l → Text (n + 1) m l ≡ textItem x

@@ -4,3 +4,4 @@ pub mod Pushed
 pub mod Flow
 pub mod Turn
 pub mod Bounds
+pub mod Tables

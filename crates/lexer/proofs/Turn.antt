@@ -3,13 +3,13 @@ use mathlib.Core.Path.{_≡_, refl, sym, ap, _∙_}
 use mathlib.Core.List.{List, [], _∷_}
 use Prim.Native.Nat.{ℕ, zero, suc, _+_, _≤_, _<_}
 use native.Mathlib.Omega.{arith}
-use lib.ListN.{length, getD, drop, drop-of-length-le}
+use lib.ListN.{length, drop, drop-of-length-le}
 use lib.Seq.{drop-cons, drop-drop, drop-nil}
 use Rattle.lexer.specs.declared.Lexer.{Lexer}
 use Rattle.lexer.specs.declared.Next.{Next}
 use Rattle.lexer.specs.declared.Next.the-variants.{On, Stop}
 use Rattle.lexer.specs.declared.Item.{Item}
-use Rattle.lexer.specs.Items.{sizeOf, itemOf, itemAt, less, items}
+use Rattle.lexer.specs.Items.{sizeOf, itemAt, less, items}
 use Rattle.lexer.specs.Steps.{stepIn, ended, Done, thenIn, finishIn, scanIn, Does}
 
 skip : (l : List ℕ) (k : ℕ) → items l k ≡ items (drop k l) 0

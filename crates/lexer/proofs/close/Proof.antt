@@ -1,5 +1,5 @@
 -- `lexer::close` meets its contract. Assumes nothing.
-use mathlib.Core.Path.{_≡_, refl, ap, _∙_}
+use mathlib.Core.Path.{refl, ap, _∙_}
 use mathlib.Core.List.{[]}
 use Rattle.literal.specs.declared.Words.{Words}
 use Rattle.lexer.specs.Lex.{noValue}
@@ -8,24 +8,16 @@ use Rattle.lexer.proofs.Flow.{does-either, does-other}
 use borrow.Author.Needs.{needs}
 use Rattle.lexer.proofs.close.Statement.{statement}
 use Rattle.lexer.proofs.close.Tie as tie
-use Rattle.lexer.proofs.close.Reads as reads
-use Rattle.lexer.proofs.close.Lts as lts
-use Rattle.lexer.proofs.emit.Reads as emit-reads
-use Rattle.literal.proofs.none.Reads as none-reads
 
--- src/lib.rt:164:54
 none-requires : tie.Need-none-requires
 none-requires c κs = search needs
 
--- src/lib.rt:164:9
 emit-requires : tie.Need-emit-requires
 emit-requires c κs = search needs
 
--- src/lib.rt:164:9
 same-length : tie.Need-same-length
 same-length c = search needs
 
--- src/lib.rt:164:9
 returns : tie.Need-returns
 returns c =
     let a = c .before .before .before .before .before .before .before .args in
@@ -37,7 +29,6 @@ returns c =
       errors-are = refl;
     })
 
--- src/lib.rt:157:1
 returns-2 : tie.Need-returns-2
 returns-2 c =
     let a = c .before .before .args in

@@ -1,62 +1,47 @@
 -- `lexer::emit` meets its contract. Assumes nothing.
-use mathlib.Core.Path.{_≡_}
 use Prim.Native.Nat.{_<_}
 use native.Mathlib.Omega.{arith}
 use Rattle.lexer.proofs.Pushed.{full, roomy, counts}
 use borrow.Author.Needs.{needs}
 use Rattle.lexer.proofs.emit.Statement.{statement}
 use Rattle.lexer.proofs.emit.Tie as tie
-use Rattle.lexer.proofs.emit.Reads as reads
-use Rattle.lexer.proofs.emit.Lts as lts
-use Rattle.records.proofs.push_token.Reads as push-token-reads
 
--- src/lib.rt:252:26
 cast-line : tie.Need-cast-line
 cast-line c = search needs
 
--- src/lib.rt:252:16
 add-line : tie.Need-add-line
 add-line c = search needs
 
--- src/lib.rt:258:20
 cast-t10 : tie.Need-cast-t10
 cast-t10 c = search needs
 
--- src/lib.rt:259:21
 cast-t13 : tie.Need-cast-t13
 cast-t13 c = search needs
 
--- src/lib.rt:253:9
 push-token-requires : tie.Need-push-token-requires
 push-token-requires c κs = search needs
 
--- src/lib.rt:267:9
 same-length : tie.Need-same-length
 same-length c = search needs
 
--- src/lib.rt:267:9
 returns : tie.Need-returns
 returns c =
     let a = c .before .before .before .before .before .before .before .before .args in
     let p = c .before .before .before .push-token .ensures in
     (full 7 (a .tokens .now) (a .l .tokens) _ (p .answer) _ _ (c .if1 .taken), p .table)
 
--- src/lib.rt:270:18
 add-t16 : tie.Need-add-t16
 add-t16 c = search needs
 
--- src/lib.rt:272:17
 add-t10 : tie.Need-add-t10
 add-t10 c =
     let a = c .before .before .before .before .before .before .before .before .before .args in
     let h : a .l .tokens < 4294967295 = counts 7 (a .tokens .now) (a .l .tokens) _ (c .before .before .before .before .push-token .ensures .answer) (c .before .if1 .left) in
     omega arith
 
--- src/lib.rt:247:1
 same-length-2 : tie.Need-same-length-2
 same-length-2 c = search needs
 
--- src/lib.rt:247:1
 returns-2 : tie.Need-returns-2
 returns-2 c =
     let a = c .before .before .before .before .before .before .before .before .before .args in

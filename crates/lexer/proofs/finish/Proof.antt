@@ -1,28 +1,19 @@
 -- `lexer::finish` meets its contract. Assumes nothing.
-use mathlib.Core.Path.{_≡_, refl, sym, ap, _∙_}
-use mathlib.Core.List.{List, []}
+use mathlib.Core.Path.{sym, _∙_}
+use mathlib.Core.List.{[]}
 use native.Mathlib.Omega.{arith}
 use Rattle.lexer.specs.declared.Next.the-variants.{On}
-use Rattle.lexer.specs.Steps.{closeIn}
 use Rattle.lexer.proofs.Flow.{goes-on, ends-there, with-tables, Moved, moved, close-moved, eof-at}
 use borrow.Author.Needs.{needs}
 use Rattle.lexer.proofs.finish.Statement.{statement}
 use Rattle.lexer.proofs.finish.Tie as tie
-use Rattle.lexer.proofs.finish.Reads as reads
-use Rattle.lexer.proofs.finish.Lts as lts
-use Rattle.lexer.proofs.close.Reads as close-reads
-use Rattle.lexer.proofs.ends.Reads as ends-reads
-use Rattle.lexer.proofs.eof.Reads as eof-reads
 
--- src/lib.rt:151:11
 close-requires : tie.Need-close-requires
 close-requires c κs = search needs
 
--- src/lib.rt:152:18
 enum-known-m : tie.Need-enum-known-m
 enum-known-m c = search needs
 
--- src/lib.rt:152:24
 eof-requires : tie.Need-eof-requires
 eof-requires c κs =
     let a = c .before .before .before .before .before .before .before .before .before .args in
@@ -30,19 +21,15 @@ eof-requires c κs =
     let z : Moved (a .l) 0 0 (On (g .0 .0)) = moved _ (a .l) (g .0 .0) 0 0 (close-moved (a .l) (a .tokens .now) []) (sym (c .before .before .before .before .before .before .close .ensures .next-is) ∙ g .1) in
     omega arith
 
--- src/lib.rt:153:20
 enum-known-o : tie.Need-enum-known-o
 enum-known-o c = search needs
 
--- src/lib.rt:153:26
 ends-requires : tie.Need-ends-requires
 ends-requires c κs = search needs
 
--- src/lib.rt:147:1
 same-length : tie.Need-same-length
 same-length c = search needs
 
--- src/lib.rt:147:1
 returns : tie.Need-returns
 returns c =
     let a = c .before .before .before .before .before .before .before .before .before .before .before .before .args in
@@ -51,11 +38,9 @@ returns c =
     let h = c .before .before .eof in
     goes-on _ _ _ (a .l) _ _ (g .0 .0) _ _ (sym (d .ensures .next-is) ∙ g .1) (eof-at (g .0 .0) _ _ _ _ _ (d .ensures .tokens-are) (d .ensures .errors-are) (h .ensures))
 
--- src/lib.rt:147:1
 same-length-2 : tie.Need-same-length-2
 same-length-2 c = search needs
 
--- src/lib.rt:147:1
 returns-2 : tie.Need-returns-2
 returns-2 c =
     let a = c .before .before .before .before .before .before .before .before .before .args in

@@ -10,17 +10,6 @@ use Rattle.lexer.proofs.Found.{as-letter, as-digit, as-sign, remark}
 use borrow.Author.Needs.{needs}
 use Rattle.lexer.proofs.item_at.Statement.{statement}
 use Rattle.lexer.proofs.item_at.Tie as tie
-use Rattle.lexer.proofs.item_at.Reads as reads
-use Rattle.lexer.proofs.item_at.Lts as lts
-use Rattle.lexer.proofs.identifier.Reads as identifier-reads
-use Rattle.lexer.proofs.mark.Reads as mark-reads
-use Rattle.lexer.proofs.pair.Reads as pair-reads
-use Rattle.lexer.proofs.sign_of.Reads as sign-of-reads
-use Rattle.lexer.proofs.string.Reads as string-reads
-use Rattle.numbers.proofs.number.Reads as number-reads
-use Rattle.spans.proofs.comment_end.Reads as comment-end-reads
-use Rattle.spans.proofs.is_alpha.Reads as is-alpha-reads
-use Rattle.spans.proofs.is_digit.Reads as is-digit-reads
 
 -- a byte that is no letter and no digit
 other : (s : tie.After-sign-of) (z : Sign) → z ≡ signOf (getD (s .before .before .before .before .before .before .before .args .s .now) (s .before .before .before .before .before .before .before .args .i) 0)
@@ -29,133 +18,104 @@ other s z e =
     let d = s .before .before .before .before .before .before .before in
     as-sign (d .args .s .now) (d .args .i) (d .pre) z (sym (s .before .before .before .before .is-alpha .ensures) ∙ s .before .before .before .if1 .left) (sym (s .before .before .is-digit .ensures) ∙ s .before .if2 .left) e
 
-
--- src/lib.rt:311:13
 shared-slice-read-c : tie.Need-shared-slice-read-c
 shared-slice-read-c c = search needs
 
--- src/lib.rt:312:8
 is-alpha-requires : tie.Need-is-alpha-requires
 is-alpha-requires c κs = search needs
 
--- src/lib.rt:313:9
 identifier-requires : tie.Need-identifier-requires
 identifier-requires c κs = search needs
 
--- src/lib.rt:313:9
 returns : tie.Need-returns
 returns c =
     let d = c .before .before .before .before .before in
     c .identifier .ensures ∙ as-letter (d .args .s .now) (d .args .i) (d .pre) (sym (c .before .before .is-alpha .ensures) ∙ c .before .if1 .taken)
 
--- src/lib.rt:315:8
 is-digit-requires : tie.Need-is-digit-requires
 is-digit-requires c κs = search needs
 
--- src/lib.rt:316:29
 number-requires : tie.Need-number-requires
 number-requires c κs = search needs
 
--- src/lib.rt:316:9
 returns-2 : tie.Need-returns-2
 returns-2 c =
     let d = c .before .before .before .before .before .before .before in
     ap Number (c .number .ensures)
     ∙ as-digit (d .args .s .now) (d .args .i) (d .pre) (sym (c .before .before .before .before .is-alpha .ensures) ∙ c .before .before .before .if1 .left) (sym (c .before .before .is-digit .ensures) ∙ c .before .if2 .taken)
 
--- src/lib.rt:318:11
 sign-of-requires : tie.Need-sign-of-requires
 sign-of-requires c κs = search needs
 
--- src/lib.rt:319:26
 enum-told : tie.Need-enum-told
 enum-told c = search needs
 
--- src/lib.rt:324:24
 enum-told-2 : tie.Need-enum-told-2
 enum-told-2 c = search needs
 
--- src/lib.rt:325:59
 enum-told-3 : tie.Need-enum-told-3
 enum-told-3 c = search needs
 
--- src/lib.rt:325:59
 add-comment-end : tie.Need-add-comment-end
 add-comment-end c = search needs
 
--- src/lib.rt:325:37
 comment-end-requires : tie.Need-comment-end-requires
 comment-end-requires c κs = search needs
 
--- src/lib.rt:325:37
 sub-t16 : tie.Need-sub-t16
 sub-t16 c = search needs
 
--- src/lib.rt:326:24
 enum-told-4 : tie.Need-enum-told-4
 enum-told-4 c = search needs
 
--- src/lib.rt:326:24
 string-requires : tie.Need-string-requires
 string-requires c κs = search needs
 
--- src/lib.rt:327:22
 enum-known-kind : tie.Need-enum-known-kind
 enum-known-kind c = search needs
 
--- src/lib.rt:327:31
 mark-requires : tie.Need-mark-requires
 mark-requires c κs = search needs
 
--- src/lib.rt:328:20
 enum-known-alone : tie.Need-enum-known-alone
 enum-known-alone c = search needs
 
--- src/lib.rt:328:36
 pair-requires : tie.Need-pair-requires
 pair-requires c κs = search needs
 
--- src/lib.rt:329:26
 enum-told-5 : tie.Need-enum-told-5
 enum-told-5 c = search needs
 
--- src/lib.rt:307:1
 returns-3 : tie.Need-returns-3
 returns-3 c =
     let s = c .before .before in
     other s Newline (sym (c .enum-told .given .1) ∙ s .sign-of .ensures)
 
--- src/lib.rt:307:1
 returns-4 : tie.Need-returns-4
 returns-4 c =
     let s = c .before .before in
     other s Blank (sym (c .enum-told2 .given .1) ∙ s .sign-of .ensures)
 
--- src/lib.rt:307:1
 returns-5 : tie.Need-returns-5
 returns-5 c =
     let s = c .before .before .before in
     remark (s .before .before .before .before .before .before .before .args .s .now) (s .before .before .before .before .before .before .before .args .i) (s .before .before .before .before .before .before .before .pre) _ (c .comment-end .ensures) ∙ other s Hash (sym (c .before .enum-told3 .given .1) ∙ s .sign-of .ensures)
 
--- src/lib.rt:307:1
 returns-6 : tie.Need-returns-6
 returns-6 c =
     let s = c .before .before .before in
     c .string .ensures ∙ other s Quote (sym (c .before .enum-told4 .given .1) ∙ s .sign-of .ensures)
 
--- src/lib.rt:307:1
 returns-7 : tie.Need-returns-7
 returns-7 c =
     let s = c .before .before .before .before in
     c .mark .ensures ∙ other s (Single (c .before .before .kind .given .0 .0)) (sym (c .before .before .kind .given .1) ∙ s .sign-of .ensures)
 
--- src/lib.rt:307:1
 returns-8 : tie.Need-returns-8
 returns-8 c =
     let s = c .before .before .before .before in
     c .pair .ensures ∙ other s (Pair (c .before .before .alone .given .0 .0) (c .before .before .alone .given .0 .1 .0)) (sym (c .before .before .alone .given .1) ∙ s .sign-of .ensures)
 
--- src/lib.rt:307:1
 returns-9 : tie.Need-returns-9
 returns-9 c =
     let s = c .before .before in

@@ -1,5 +1,5 @@
 -- `lexer::pair` meets its contract. Assumes nothing.
-use mathlib.Core.Path.{_≡_, sym, ap, _∙_}
+use mathlib.Core.Path.{sym, _∙_}
 use mathlib.Core.Logic.{⊎-elim}
 use Prim.Native.Nat.{_+_}
 use native.Mathlib.Omega.{arith}
@@ -7,25 +7,18 @@ use Rattle.lexer.proofs.Found.{paired, unpaired, at-the-end, lone-none,
 use borrow.Author.Needs.{needs}
 use Rattle.lexer.proofs.pair.Statement.{statement}
 use Rattle.lexer.proofs.pair.Tie as tie
-use Rattle.lexer.proofs.pair.Reads as reads
-use Rattle.lexer.proofs.pair.Lts as lts
-use Rattle.lexer.proofs.mark.Reads as mark-reads
 
--- src/lib.rt:421:13
 add-j : tie.Need-add-j
 add-j c = search needs
 
--- src/lib.rt:423:12
 shared-slice-read-if2 : tie.Need-shared-slice-read-if2
 shared-slice-read-if2 c = search needs
 
--- src/lib.rt:424:13
 returns : tie.Need-returns
 returns c =
     let a = c .before .before .before .before .args in
     paired (a .s .now) (a .i + 1) (a .alone) (a .with) (omega arith) (c .if2 .taken)
 
--- src/lib.rt:432:9
 returns-2 : tie.Need-returns-2
 returns-2 c =
     let a = c .before .before .before .args in
@@ -33,11 +26,9 @@ returns-2 c =
     (⊎-elim (λ w. unpaired (a .s .now) (a .i + 1) (a .alone) (a .with) (w .0 .taken) (w .2 .left)) (λ w. at-the-end (a .s .now) (a .i + 1) (a .alone) (a .with) (w .left)) (c .before .if1 .came)
     ∙ lone-none (a .alone) (c .if3 .taken))
 
--- src/lib.rt:438:5
 mark-requires : tie.Need-mark-requires
 mark-requires c κs = search needs
 
--- src/lib.rt:417:1
 returns-3 : tie.Need-returns-3
 returns-3 c =
     let a = c .before .before .before .before .args in

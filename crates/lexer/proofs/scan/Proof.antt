@@ -1,47 +1,44 @@
+-- `lexer::scan` meets its contract. Assumes nothing.
+use mathlib.Core.Path.{refl, sym, _∙_}
+use native.Mathlib.Omega.{arith}
+use borrow.Author.Tests.{not-true, not-false}
+use Rattle.lexer.proofs.Tables.{too-long, no-text, lexes}
 use borrow.Author.Needs.{needs}
 use Rattle.lexer.proofs.scan.Statement.{statement}
 use Rattle.lexer.proofs.scan.Tie as tie
-use Rattle.lexer.proofs.scan.Reads as reads
-use Rattle.lexer.proofs.scan.Lts as lts
-use Rattle.lexer.proofs.refuse.Reads as refuse-reads
-use Rattle.lexer.proofs.scan_tokens.Reads as scan-tokens-reads
-use Rattle.text.proofs.is_text.Reads as is-text-reads
 
--- src/lib.rt:88:9
 refuse-requires : tie.Need-refuse-requires
 refuse-requires c κs = search needs
 
--- src/lib.rt:88:9
 returns : tie.Need-returns
-returns c = ?
+returns c =
+    let a = c .before .before .before .before .before .args in
+    too-long (a .source .now) (a .tokens .now) (a .errors .now) _ _ _ (c .before .if1 .taken) (c .refuse .ensures) refl refl
 
--- src/lib.rt:90:9
 is-text-requires : tie.Need-is-text-requires
 is-text-requires c κs = search needs
 
--- src/lib.rt:91:9
 refuse-requires-2 : tie.Need-refuse-requires-2
 refuse-requires-2 c κs = search needs
 
--- src/lib.rt:91:9
 returns-2 : tie.Need-returns-2
-returns-2 c = ?
+returns-2 c =
+    let a = c .before .before .before .before .before .before .before .args in
+    no-text (a .source .now) (a .tokens .now) (a .errors .now) _ _ _ (c .before .before .before .if1 .left) (sym (c .before .before .is-text .ensures) ∙ not-true _ (c .before .if2 .taken)) (c .refuse2 .ensures) refl refl
 
--- src/lib.rt:93:5
 scan-tokens-requires : tie.Need-scan-tokens-requires
 scan-tokens-requires c κs = search needs
 
--- src/lib.rt:83:1
 same-length : tie.Need-same-length
 same-length c = search needs
 
--- src/lib.rt:83:1
 same-length-2 : tie.Need-same-length-2
 same-length-2 c = search needs
 
--- src/lib.rt:83:1
 returns-3 : tie.Need-returns-3
-returns-3 c = ?
+returns-3 c =
+    let a = c .before .before .before .before .before .before .before .before .before .before .before .before .before .args in
+    lexes (a .source .now) (a .tokens .now) (a .errors .now) _ _ _ (omega arith) (sym (c .before .before .before .before .before .before .before .before .is-text .ensures) ∙ not-false _ (c .before .before .before .before .before .before .before .if2 .left)) (c .before .before .before .before .scan-tokens .ensures)
 
 pub scan-spec : {M : Type 1} → statement M
 scan-spec =

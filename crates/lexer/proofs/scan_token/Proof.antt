@@ -1,5 +1,5 @@
 -- `lexer::scan_token` meets its contract, item by item. Assumes nothing.
-use mathlib.Core.Path.{_≡_, refl, ap, _∙_, subst}
+use mathlib.Core.Path.{refl, ap, _∙_, subst}
 use native.Mathlib.Omega.{arith}
 use Rattle.literal.specs.declared.Words.{Words}
 use Rattle.literal.specs.Value.{wordsOf}
@@ -9,90 +9,67 @@ use Rattle.lexer.proofs.Flow.{does-as, does-either, does-other}
 use borrow.Author.Needs.{needs}
 use Rattle.lexer.proofs.scan_token.Statement.{statement}
 use Rattle.lexer.proofs.scan_token.Tie as tie
-use Rattle.lexer.proofs.scan_token.Reads as reads
-use Rattle.lexer.proofs.scan_token.Lts as lts
-use Rattle.lexer.proofs.advance.Reads as advance-reads
-use Rattle.lexer.proofs.emit.Reads as emit-reads
-use Rattle.lexer.proofs.set_error.Reads as set-error-reads
-use Rattle.literal.proofs.Literal.number.Reads as number-reads
-use Rattle.literal.proofs.Literal.pack.Reads as pack-reads
-use Rattle.literal.proofs.none.Reads as none-reads
 
--- src/lib.rt:185:24
 enum-told : tie.Need-enum-told
 enum-told c = search needs
 
--- src/lib.rt:185:24
 advance-requires : tie.Need-advance-requires
 advance-requires c κs =
     let g = c .enum-told .given in
     let z : Inside (c .before .before .before .before .args .l) Space = subst (Inside (c .before .before .before .before .args .l)) (g .1) (c .before .before .before .before .pre) in
     omega arith
 
--- src/lib.rt:186:23
 enum-known-x : tie.Need-enum-known-x
 enum-known-x c = search needs
 
--- src/lib.rt:186:29
 advance-requires-2 : tie.Need-advance-requires-2
 advance-requires-2 c κs =
     let g = c .before .x .given in
     let z : Inside (c .before .before .before .before .before .args .l) (Comment (g .0 .0)) = subst (Inside (c .before .before .before .before .before .args .l)) (g .1) (c .before .before .before .before .before .pre) in
     omega arith
 
--- src/lib.rt:187:22
 enum-known-x-2 : tie.Need-enum-known-x-2
 enum-known-x-2 c = search needs
 
--- src/lib.rt:187:69
 none-requires : tie.Need-none-requires
 none-requires c κs = search needs
 
--- src/lib.rt:187:38
 emit-requires : tie.Need-emit-requires
 emit-requires c κs =
     let g = c .before .before .before .x2 .given in
     let z : Inside (c .before .before .before .before .before .before .before .args .l) (Name (g .0 .0) (g .0 .1 .0)) = subst (Inside (c .before .before .before .before .before .before .before .args .l)) (g .1) (c .before .before .before .before .before .before .before .pre) in
     omega arith
 
--- src/lib.rt:189:13
 enum-known-x-3 : tie.Need-enum-known-x-3
 enum-known-x-3 c = search needs
 
--- src/lib.rt:194:24
 cast-t24 : tie.Need-cast-t24
 cast-t24 c = search needs
 
--- src/lib.rt:195:25
 cast-t25 : tie.Need-cast-t25
 cast-t25 c =
     let g = c .before .before .x3 .given in
     let z : Inside (c .before .before .before .before .before .before .args .l) (Text (g .0 .0) (g .0 .1 .0) (g .0 .1 .1 .0)) = subst (Inside (c .before .before .before .before .before .before .args .l)) (g .1) (c .before .before .before .before .before .before .pre) in
     omega arith
 
--- src/lib.rt:203:37
 cast-t24-2 : tie.Need-cast-t24-2
 cast-t24-2 c =
     let g = c .before .before .before .x3 .given in
     let z : Inside (c .before .before .before .before .before .before .before .args .l) (Text (g .0 .0) (g .0 .1 .0) (g .0 .1 .1 .0)) = subst (Inside (c .before .before .before .before .before .before .before .args .l)) (g .1) (c .before .before .before .before .before .before .before .pre) in
     omega arith
 
--- src/lib.rt:203:17
 pack-requires : tie.Need-pack-requires
 pack-requires c κs = search needs
 
--- src/lib.rt:197:13
 emit-requires-2 : tie.Need-emit-requires-2
 emit-requires-2 c κs =
     let g = c .before .before .before .before .x3 .given in
     let z : Inside (c .before .before .before .before .before .before .before .before .args .l) (Text (g .0 .0) (g .0 .1 .0) (g .0 .1 .1 .0)) = subst (Inside (c .before .before .before .before .before .before .before .before .args .l)) (g .1) (c .before .before .before .before .before .before .before .before .pre) in
     omega arith
 
--- src/lib.rt:206:22
 enum-known-x-4 : tie.Need-enum-known-x-4
 enum-known-x-4 c = search needs
 
--- src/lib.rt:208:17
 returns : tie.Need-returns
 returns c =
     let a = c .before .before .before .before .before .before .args in
@@ -100,59 +77,48 @@ returns c =
     does-as _ _ (a .l) _ _ _ _ _ (g .1)
     (does-either _ _ _ _ _ _ (c .if1 .taken) (record { next-is = refl; tokens-are = refl; errors-are = refl }))
 
--- src/lib.rt:211:24
 cast-t31 : tie.Need-cast-t31
 cast-t31 c = search needs
 
--- src/lib.rt:212:25
 cast-t32 : tie.Need-cast-t32
 cast-t32 c =
     let g = c .before .before .before .before .x4 .given in
     let z : Inside (c .before .before .before .before .before .before .before .before .args .l) (Number (g .0 .0)) = subst (Inside (c .before .before .before .before .before .before .before .before .args .l)) (g .1) (c .before .before .before .before .before .before .before .before .pre) in
     omega arith
 
--- src/lib.rt:220:17
 number-requires : tie.Need-number-requires
 number-requires c κs = search needs
 
--- src/lib.rt:220:17
 pack-requires-2 : tie.Need-pack-requires-2
 pack-requires-2 c κs = search needs
 
--- src/lib.rt:214:13
 emit-requires-3 : tie.Need-emit-requires-3
 emit-requires-3 c κs =
     let g = c .before .before .before .before .before .before .before .x4 .given in
     let z : Inside (c .before .before .before .before .before .before .before .before .before .before .before .args .l) (Number (g .0 .0)) = subst (Inside (c .before .before .before .before .before .before .before .before .before .before .before .args .l)) (g .1) (c .before .before .before .before .before .before .before .before .before .before .before .pre) in
     omega arith
 
--- src/lib.rt:223:22
 enum-known-x-5 : tie.Need-enum-known-x-5
 enum-known-x-5 c = search needs
 
--- src/lib.rt:223:80
 none-requires-2 : tie.Need-none-requires-2
 none-requires-2 c κs = search needs
 
--- src/lib.rt:223:45
 emit-requires-4 : tie.Need-emit-requires-4
 emit-requires-4 c κs =
     let g = c .before .before .before .x5 .given in
     let z : Inside (c .before .before .before .before .before .before .before .args .l) (Mark (g .0 .0) (g .0 .1 .0) (g .0 .1 .1 .0)) = subst (Inside (c .before .before .before .before .before .before .before .args .l)) (g .1) (c .before .before .before .before .before .before .before .pre) in
     omega arith
 
--- src/lib.rt:225:13
 enum-known-x-6 : tie.Need-enum-known-x-6
 enum-known-x-6 c = search needs
 
--- src/lib.rt:228:14
 set-error-requires : tie.Need-set-error-requires
 set-error-requires c κs =
     let g = c .before .before .x6 .given in
     let z : Inside (c .before .before .before .before .before .before .args .l) (Wrong (g .0 .0) (g .0 .1 .0) (g .0 .1 .1 .0)) = subst (Inside (c .before .before .before .before .before .before .args .l)) (g .1) (c .before .before .before .before .before .before .pre) in
     omega arith
 
--- src/lib.rt:180:1
 returns-2 : tie.Need-returns-2
 returns-2 c =
     let a = c .before .before .before .before .before .args in
@@ -160,7 +126,6 @@ returns-2 c =
     does-as _ _ (a .l) _ _ _ _ _ (g .1)
     (record { next-is = c .advance .ensures; tokens-are = refl; errors-are = refl })
 
--- src/lib.rt:180:1
 returns-3 : tie.Need-returns-3
 returns-3 c =
     let a = c .before .before .before .before .before .before .args in
@@ -168,11 +133,9 @@ returns-3 c =
     does-as _ _ (a .l) _ _ _ _ _ (g .1)
     (record { next-is = c .advance2 .ensures; tokens-are = refl; errors-are = refl })
 
--- src/lib.rt:180:1
 same-length : tie.Need-same-length
 same-length c = search needs
 
--- src/lib.rt:180:1
 returns-4 : tie.Need-returns-4
 returns-4 c =
     let a = c .before .before .before .before .before .before .before .before .before .before .args in
@@ -181,11 +144,9 @@ returns-4 c =
     does-as _ _ (a .l) _ _ _ _ _ (g .1)
     (record { next-is = e .0; tokens-are = e .1 ∙ ap (λ (w : Words). emitTable (a .l) (g .0 .0) (g .0 .1 .0) 0 w (a .tokens .now)) (c .before .before .before .none .ensures); errors-are = refl })
 
--- src/lib.rt:180:1
 same-length-2 : tie.Need-same-length-2
 same-length-2 c = search needs
 
--- src/lib.rt:180:1
 returns-5 : tie.Need-returns-5
 returns-5 c =
     let a = c .before .before .before .before .before .before .before .before .before .before .before .args in
@@ -194,11 +155,9 @@ returns-5 c =
     does-as _ _ (a .l) _ _ _ _ _ (g .1)
     (record { next-is = e .0; tokens-are = e .1 ∙ ap (λ (w : Words). emitTable (a .l) 26 (g .0 .0) (g .0 .1 .0) w (a .tokens .now)) (c .before .before .before .pack .ensures); errors-are = refl })
 
--- src/lib.rt:180:1
 same-length-3 : tie.Need-same-length-3
 same-length-3 c = search needs
 
--- src/lib.rt:180:1
 returns-6 : tie.Need-returns-6
 returns-6 c =
     let a = c .before .before .before .before .before .before .before .before .before .before .before .before .before .before .args in
@@ -207,11 +166,9 @@ returns-6 c =
     does-as _ _ (a .l) _ _ _ _ _ (g .1)
     (does-other _ _ _ _ _ _ (c .before .before .before .before .before .before .before .before .if1 .left) (record { next-is = e .0; tokens-are = e .1 ∙ ap (λ (w : Words). emitTable (a .l) 27 (g .0 .0 .size) 0 w (a .tokens .now)) (c .before .before .before .pack2 .ensures ∙ ap wordsOf (c .before .before .before .before .number .ensures)); errors-are = refl }))
 
--- src/lib.rt:180:1
 same-length-4 : tie.Need-same-length-4
 same-length-4 c = search needs
 
--- src/lib.rt:180:1
 returns-7 : tie.Need-returns-7
 returns-7 c =
     let a = c .before .before .before .before .before .before .before .before .before .before .args in
@@ -220,11 +177,9 @@ returns-7 c =
     does-as _ _ (a .l) _ _ _ _ _ (g .1)
     (record { next-is = e .0; tokens-are = e .1 ∙ ap (λ (w : Words). emitTable (a .l) (g .0 .0) (g .0 .1 .0) (g .0 .1 .1 .0) w (a .tokens .now)) (c .before .before .before .none2 .ensures); errors-are = refl })
 
--- src/lib.rt:180:1
 same-length-5 : tie.Need-same-length-5
 same-length-5 c = search needs
 
--- src/lib.rt:180:1
 returns-8 : tie.Need-returns-8
 returns-8 c =
     let a = c .before .before .before .before .before .before .before .before .before .args in

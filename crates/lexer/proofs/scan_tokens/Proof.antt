@@ -12,12 +12,6 @@ use Rattle.lexer.proofs.Turn.{again, stops, finishes}
 use Rattle.lexer.proofs.Bounds.{bounded-at}
 use Rattle.lexer.proofs.scan_tokens.Statement.{statement}
 use Rattle.lexer.proofs.scan_tokens.Tie as tie
-use Rattle.lexer.proofs.scan_tokens.Reads as reads
-use Rattle.lexer.proofs.scan_tokens.Lts as lts
-use Rattle.lexer.proofs.ends.Reads as ends-reads
-use Rattle.lexer.proofs.finish.Reads as finish-reads
-use Rattle.lexer.proofs.item_at.Reads as item-at-reads
-use Rattle.lexer.proofs.scan_token.Reads as scan-token-reads
 
 abbrev Inv-loop : tie.InvT-loop
 Inv-loop source tokens₀ errors₀ l₀ at₀ tokens errors l at =
@@ -47,33 +41,26 @@ further c =
     let x = c .before .before .before .before .before .before .before .before .before .before .item-at .result in
     moved _ (l .l) _ (sizeOf x) (linesOf x) (step-moved x (l .l) (l .tokens) (l .errors)) (sym (c .before .before .before .before .before .before .before .scan-token .ensures .next-is) ∙ c .before .m .given .1)
 
-
--- src/lib.rt:131:5
 loop-holds : tie.Need-loop-holds Inv-loop μ-loop
 loop-holds c = (refl, omega arith, omega arith, refl, refl, refl)
 
--- src/lib.rt:132:13
 item-at-requires : tie.Need-item-at-requires Inv-loop μ-loop
 item-at-requires c κs = omega arith
 
--- src/lib.rt:133:15
 scan-token-requires : tie.Need-scan-token-requires Inv-loop μ-loop
 scan-token-requires c κs =
     let z = inside (c .before .before) in
     omega (arith, c .before .before .before .before .before .before .before .before .pre)
 
--- src/lib.rt:134:22
 enum-known-m : tie.Need-enum-known-m Inv-loop μ-loop
 enum-known-m c = search needs
 
--- src/lib.rt:131:5
 loop-less : tie.Need-loop-less Inv-loop μ-loop
 loop-less c =
     let z = inside (c .before .before .before .before .before .before .before .before .before .before) in
     let m = further c in
     omega arith
 
--- src/lib.rt:131:5
 loop-again : tie.Need-loop-again Inv-loop μ-loop
 loop-again c =
     let a = c .before .before .before .before .before .before .before .before .before .before .before .before .before .before .before .before .args in
@@ -91,23 +78,18 @@ loop-again c =
           ∙ again (a .source .now) (l .tokens) (l .errors) _ _ (l .at) (l .l) (x .result) (d .result) (omega arith) (x .ensures) (z .0) (d .ensures) (c .before .m .given .0 .0) (c .before .m .given .1) (omega arith),
     )
 
--- src/lib.rt:138:24
 enum-known-o : tie.Need-enum-known-o Inv-loop μ-loop
 enum-known-o c = search needs
 
--- src/lib.rt:139:17
 ends-requires : tie.Need-ends-requires Inv-loop μ-loop
 ends-requires c κs = tt
 
--- src/lib.rt:139:17
 same-length : tie.Need-same-length Inv-loop μ-loop
 same-length c = c .before .before .before .before .before .before .before .before .scan-token .kept .0 ∙ c .before .before .before .before .before .before .before .before .before .before .before .before .before .loop .inv .3
 
--- src/lib.rt:139:17
 same-length-2 : tie.Need-same-length-2 Inv-loop μ-loop
 same-length-2 c = c .before .before .before .before .before .before .before .before .scan-token .kept .1 .0 ∙ c .before .before .before .before .before .before .before .before .before .before .before .before .before .loop .inv .4
 
--- src/lib.rt:139:17
 returns : tie.Need-returns Inv-loop μ-loop
 returns c =
     let a = c .before .before .before .before .before .before .before .before .before .before .before .before .before .before .before .before .before .args in
@@ -120,19 +102,15 @@ returns c =
     ∙ stops (a .source .now) (l .tokens) (l .errors) _ _ (l .at) (l .l) (x .result) (d .result) (omega arith) (x .ensures) (z .0) (d .ensures) (c .before .before .o .given .0 .0) (c .before .before .o .given .1) in
     ends-as _ _ _ _ _ w (record { answer-is = c .ends .ensures; tokens-are = refl; errors-are = refl })
 
--- src/lib.rt:143:5
 finish-requires : tie.Need-finish-requires Inv-loop μ-loop
 finish-requires c κs = omega (arith, c .before .before .before .before .before .before .pre)
 
--- src/lib.rt:119:1
 same-length-3 : tie.Need-same-length-3 Inv-loop μ-loop
 same-length-3 c = c .before .before .finish .kept .0 ∙ c .before .before .before .before .before .loop .inv .3
 
--- src/lib.rt:119:1
 same-length-4 : tie.Need-same-length-4 Inv-loop μ-loop
 same-length-4 c = c .before .before .before .before .before .loop .inv .4
 
--- src/lib.rt:119:1
 returns-2 : tie.Need-returns-2 Inv-loop μ-loop
 returns-2 c =
     let a = c .before .before .before .before .before .before .before .before .before .args in

@@ -1,58 +1,44 @@
 -- `lexer::set_error` meets its contract. Assumes nothing.
-use mathlib.Core.Path.{_≡_}
 use Prim.Native.Nat.{_<_}
 use native.Mathlib.Omega.{arith}
 use Rattle.lexer.proofs.Pushed.{full, roomy, counts}
 use borrow.Author.Needs.{needs}
 use Rattle.lexer.proofs.set_error.Statement.{statement}
 use Rattle.lexer.proofs.set_error.Tie as tie
-use Rattle.lexer.proofs.set_error.Reads as reads
-use Rattle.lexer.proofs.set_error.Lts as lts
-use Rattle.records.proofs.push_error.Reads as push-error-reads
 
--- src/lib.rt:284:26
 cast-line : tie.Need-cast-line
 cast-line c = search needs
 
--- src/lib.rt:284:16
 add-line : tie.Need-add-line
 add-line c = search needs
 
--- src/lib.rt:291:18
 cast-t9 : tie.Need-cast-t9
 cast-t9 c = search needs
 
--- src/lib.rt:285:9
 push-error-requires : tie.Need-push-error-requires
 push-error-requires c κs = search needs
 
--- src/lib.rt:295:9
 same-length : tie.Need-same-length
 same-length c = search needs
 
--- src/lib.rt:295:9
 returns : tie.Need-returns
 returns c =
     let a = c .before .before .before .before .before .before .before .before .args in
     let p = c .before .before .before .push-error .ensures in
     (full 3 (a .errors .now) (a .l .errors) _ (p .answer) _ _ (c .if1 .taken), p .table)
 
--- src/lib.rt:298:18
 add-t14 : tie.Need-add-t14
 add-t14 c = search needs
 
--- src/lib.rt:301:17
 add-t9 : tie.Need-add-t9
 add-t9 c =
     let a = c .before .before .before .before .before .before .before .before .before .args in
     let h : a .l .errors < 4294967295 = counts 3 (a .errors .now) (a .l .errors) _ (c .before .before .before .before .push-error .ensures .answer) (c .before .if1 .left) in
     omega arith
 
--- src/lib.rt:279:1
 same-length-2 : tie.Need-same-length-2
 same-length-2 c = search needs
 
--- src/lib.rt:279:1
 returns-2 : tie.Need-returns-2
 returns-2 c =
     let a = c .before .before .before .before .before .before .before .before .before .args in
