@@ -73,6 +73,7 @@ pub enum Next {
 }
 
 // The answer: the outcome, and how many tokens and errors are kept.
+#[repr(C)]
 pub struct Scanned {
     pub outcome: u32,
     pub tokens: u32,

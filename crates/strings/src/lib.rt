@@ -36,6 +36,7 @@ pub enum Step {
 }
 
 // What a decoding answers: the outcome, and how many bytes of the buffer it wrote.
+#[repr(C)]
 pub struct Decoded {
     pub outcome: u32,
     pub length: usize,
