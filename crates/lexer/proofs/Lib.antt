@@ -5,3 +5,4 @@ pub mod Flow
 pub mod Turn
 pub mod Bounds
 pub mod Tables
+pub mod Kept

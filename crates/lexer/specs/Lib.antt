@@ -1,3 +1,4 @@
 pub mod Items
 pub mod Lex
 pub mod Steps
+pub mod Kept

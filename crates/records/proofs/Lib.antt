@@ -3,3 +3,4 @@ pub mod Room
 pub mod Put
 pub mod Field
 pub mod Rest
+pub mod Rows

@@ -1,0 +1,62 @@
+// Runs the leaf crates on test vectors: a line of standard input is a vector, and a line of standard output its answer. What is right stands in
+// the file `stdout`, which the Rust crate `vectors` makes; here it is proved only that every line has an answer and that nothing goes wrong.
+mod bytes;
+mod fields;
+mod print;
+mod tables;
+
+ghost use Prim.Native.Nat.{_≤_};
+
+fn main() {
+    let mut input = io::large_buffer();
+    let n = io::read_full(0, &mut input);
+    lines(&input[..n]);
+}
+
+// Answers every line. The last one may lack its newline.
+fn lines(s: &[u8]) {
+    let mut at = 0;
+    while at < s.len() {
+        let end = line_end(s, at);
+        line(s, at, end);
+        if end < s.len() {
+            at = end + 1;
+        } else {
+            return;
+        }
+    }
+}
+
+// Where the line that starts at a place ends.
+fn line_end(s: &[u8], from: usize) -> usize
+    ensures { λ r. ⌜ from ≤ r ⌝ }
+{
+    let mut at = from;
+    while at < s.len() {
+        if s[at] == b'\n' {
+            return at;
+        }
+        at += 1;
+    }
+    at
+}
+
+// The line from at up to end, as far as s has it.
+fn line(s: &[u8], at: usize, end: usize) {
+    if at <= end {
+        if end <= s.len() {
+            answer(&s[at..end]);
+        }
+    }
+}
+
+// The letter says what a vector's fields are: a byte string in front, a table's size in front, or numbers only.
+fn answer(s: &[u8]) {
+    match fields::letter(s) {
+        b'k' | b'x' | b'n' | b'e' | b's' | b'd' => bytes::vector(s),
+        b't' | b'o' | b'p' | b'l' | b'z' | b'r' => tables::vector(s),
+        b'v' => bytes::value(s),
+        b'u' => bytes::too_long(s),
+        _ => print::unknown(),
+    }
+}
