@@ -6,3 +6,5 @@ pub mod Turn
 pub mod Bounds
 pub mod Tables
 pub mod Kept
+pub mod Answer
+pub mod Examples

@@ -1,7 +1,7 @@
 -- What the theorems say of every lexing: its tokens, its errors, and how it ends.
 use Prim.Native.Nat.{ℕ, _+_, _≤_, _<_}
 use mathlib.Core.Path.{_≡_}
-use mathlib.Core.List.{List, _++_}
+use mathlib.Core.List.{List, [], _++_}
 use Rattle.records.specs.declared.TokenData.{TokenData}
 use Rattle.records.specs.declared.InterpreterError.{InterpreterError}
 use Rattle.records.specs.Words.{tokenWords, errorWords}
@@ -32,6 +32,12 @@ pub record Eof (n : ℕ) (d : TokenData) : Type 0 where
   pub line-from : 1 ≤ d .line
   pub line-to : d .line ≤ n + 1
 
+-- tokens in order, the last of which ends at `end` and has the line `line`: each starts at or behind the end of the one before it, on its line or a later one
+pub data InOrder : List ℕ → ℕ → ℕ → Type 0 where
+  first : InOrder [] 0 1
+  behind : {ws : List ℕ} {end line : ℕ} → InOrder ws end line → (d : TokenData) → end ≤ d .start → line ≤ d .line
+      → InOrder (ws ++ tokenWords d) (d .start + d .length) (d .line)
+
 -- the tokens of a lexing of n bytes: where it reached the end the last is the only EOF; else there is none
 pub data Ending (n : ℕ) (r : Result) : Type 0 where
   whole : (ws : List ℕ) (m : ℕ) (d : TokenData) → r .outcome ≡ 0 → Rows tokenWords (Good n) ws m → m ≤ n + 1 → Eof n d
@@ -41,6 +47,7 @@ pub data Ending (n : ℕ) (r : Result) : Type 0 where
 -- what every lexing of n bytes keeps, with room for so many tokens and errors
 pub record Keeps (n tokenRoom errorRoom : ℕ) (r : Result) : Type 0 where
   pub ending : Ending n r
+  pub order : (end : ℕ) × (line : ℕ) × InOrder (r .tokens) end line
   pub errors : Rows errorWords (Placed n) (r .errors) (r .errorCount)
   pub token-room : r .tokenCount ≤ tokenRoom
   pub error-room : r .errorCount ≤ errorRoom

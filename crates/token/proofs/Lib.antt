@@ -1,3 +1,3 @@
 pub mod Same
 pub mod Sized
-pub mod Kinds
+pub mod Range

@@ -1,5 +1,4 @@
 -- The kind of a name is Identifier's or a keyword's: 25, or 28 to 49. Assumes nothing.
-use mathlib.Core.Path.{_≡_}
 use mathlib.Core.Bool.{Bool, true, false, _&&_, cond}
 use mathlib.Core.List.{List, [], _∷_}
 use Prim.Native.Nat.{ℕ, _≤_}

@@ -1,0 +1,60 @@
+-- Worked examples: the definition computes. Assumes nothing.
+use mathlib.Core.Path.{_≡_, refl}
+use mathlib.Core.List.{List, [], _∷_}
+use Prim.Native.Nat.{ℕ}
+use lib.Ieee.{div, ofInt, toBits}
+use Rattle.token.specs.Keyword.{keywordOf}
+use Rattle.text.specs.Text.{isText}
+use Rattle.lexer.specs.Items.{signOf}
+use Rattle.lexer.specs.Lex.{Result, lexed, lexedOf}
+
+-- outcome, counts, then the words
+abbrev is : ℕ → ℕ → ℕ → List ℕ → List ℕ → Result
+is o n m t e = record { outcome = o; tokenCount = n; errorCount = m; tokens = t; errors = e }
+
+-- the worked example of `outline`: `a = 1` and a newline
+worked : lexedOf (97 ∷ 32 ∷ 61 ∷ 32 ∷ 49 ∷ 10 ∷ []) 100 10
+    ≡ is 0 5 0
+    (25 ∷ 0 ∷ 1 ∷ 1 ∷ 0 ∷ 0 ∷ 0 ∷
+    19 ∷ 2 ∷ 1 ∷ 1 ∷ 0 ∷ 0 ∷ 0 ∷
+    27 ∷ 4 ∷ 1 ∷ 1 ∷ 2 ∷ 0 ∷ 0x3ff0_0000 ∷
+    1 ∷ 5 ∷ 1 ∷ 2 ∷ 0 ∷ 0 ∷ 0 ∷
+    0 ∷ 6 ∷ 0 ∷ 2 ∷ 0 ∷ 0 ∷ 0 ∷ []) []
+unfolding lexedOf lexed isText keywordOf signOf div ofInt toBits
+worked = refl
+
+-- empty: one token
+empty : lexedOf [] 1 0 ≡ is 0 1 0 (0 ∷ 0 ∷ 0 ∷ 1 ∷ 0 ∷ 0 ∷ 0 ∷ []) []
+unfolding lexedOf lexed isText
+empty = refl
+
+-- `1.5` with nothing after it: outcome 2, and neither Newline nor EOF
+cut : lexedOf (49 ∷ 46 ∷ 53 ∷ []) 9 9 ≡ is 2 0 0 [] []
+unfolding lexedOf lexed isText
+cut = refl
+
+-- `"\q"`: message 3 at 0 and at 3, only EOF
+bad-escape : lexedOf (34 ∷ 92 ∷ 113 ∷ 34 ∷ []) 9 9 ≡ is 0 1 2 (0 ∷ 4 ∷ 0 ∷ 1 ∷ 0 ∷ 0 ∷ 0 ∷ []) (3 ∷ 1 ∷ 0 ∷ 3 ∷ 1 ∷ 3 ∷ [])
+unfolding lexedOf lexed isText signOf
+bad-escape = refl
+
+-- an escaped newline doesn't raise the line, a newline inside a string does: `"\`, newline, `"`, newline, `"`
+lines : lexedOf (34 ∷ 92 ∷ 10 ∷ 34 ∷ 10 ∷ 34 ∷ []) 9 9
+    ≡ is 0 3 1 (26 ∷ 3 ∷ 3 ∷ 2 ∷ 1 ∷ 1 ∷ 0 ∷ 1 ∷ 6 ∷ 0 ∷ 2 ∷ 0 ∷ 0 ∷ 0 ∷ 0 ∷ 6 ∷ 0 ∷ 2 ∷ 0 ∷ 0 ∷ 0 ∷ []) (3 ∷ 1 ∷ 0 ∷ [])
+unfolding lexedOf lexed isText signOf
+lines = refl
+
+-- a lone `!` is message 1, a two-byte letter message 2 twice; then the room for errors ends
+marks : lexedOf (33 ∷ 195 ∷ 169 ∷ []) 9 2 ≡ is 6 0 2 [] (1 ∷ 1 ∷ 0 ∷ 2 ∷ 1 ∷ 1 ∷ [])
+unfolding lexedOf lexed isText signOf
+marks = refl
+
+-- room for the name and the closing Newline, not for EOF
+full : lexedOf (97 ∷ []) 2 0 ≡ is 5 2 0 (25 ∷ 0 ∷ 1 ∷ 1 ∷ 0 ∷ 0 ∷ 0 ∷ 1 ∷ 1 ∷ 0 ∷ 1 ∷ 0 ∷ 0 ∷ 0 ∷ []) []
+unfolding lexedOf lexed isText keywordOf
+full = refl
+
+-- C1 80 is no text
+no-text : lexedOf (193 ∷ 128 ∷ []) 9 9 ≡ is 3 0 0 [] []
+unfolding lexedOf isText
+no-text = refl
