@@ -1,9 +1,28 @@
-//! Test vectors for the Rattle programs, and their answers.
+//! Test vectors for the Rattle program `replay`, and their answers.
 //!
-//! A vector is a line of a program's standard input, its answer a line of the standard output.
+//! A vector is a line of the program's standard input, its answer a line of the standard output.
 //! The answers come from a judge in Rust that shares nothing with the Rattle code: the original
 //! where it has such a thing, Rust's own library, or a plain rendering of document 01.
 
 pub mod dice;
 pub mod leaves;
+pub mod lexing;
 pub mod sheet;
+
+use sheet::Sheet;
+
+/// The Rattle program that answers the vectors.
+pub const PROGRAM: &str = "replay";
+
+/// All vectors and answers, with how they were made in front.
+pub fn sheet() -> Sheet {
+    let mut sheet = Sheet::default();
+    sheet.comment("Made by the Rust crate `vectors` of this repository: cargo run -p vectors");
+    sheet.comment("Each line is a vector; its answer is the line of `stdout` with the same letter");
+    sheet.comment("k x n v e s d u t o p l z r: the leaf crates, see vectors/src/leaves");
+    sheet.comment("Their random ones: xorshift64, the seeds stand beside the generators");
+    lexing::comment(&mut sheet);
+    leaves::add(&mut sheet);
+    lexing::add(&mut sheet);
+    sheet
+}

@@ -6,7 +6,7 @@ use std::path::PathBuf;
 use std::{fs, io};
 
 /// A program reads all of its input into a buffer of this size.
-const INPUT_LIMIT: usize = 65_536;
+const INPUT_LIMIT: usize = 262_144;
 
 /// Vectors with their answers, in a fixed order.
 #[derive(Default)]
@@ -21,6 +21,11 @@ impl Sheet {
     /// letter. A vector that is there already is not added again.
     pub fn add(&mut self, letter: char, fields: &[&dyn Display], answer: &[&dyn Display]) {
         self.add_line(&line(letter, fields), &line(letter, answer));
+    }
+
+    /// Adds a line that says something about the vectors. It has no answer.
+    pub fn comment(&mut self, text: &str) {
+        writeln!(self.stdin, "# {text}").expect("a string takes every line");
     }
 
     /// Adds a line that is no vector.

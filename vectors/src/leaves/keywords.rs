@@ -7,7 +7,7 @@ use crate::sheet::{hex, Sheet};
 use oracle::token::Token;
 
 /// The 22 keywords, in the order of their kinds.
-const KEYWORDS: [&str; 22] = [
+pub(crate) const KEYWORDS: [&str; 22] = [
     "and", "class", "else", "false", "fn", "for", "if", "elif", "nil", "or", "return", "break",
     "continue", "super", "this", "true", "let", "while", "not", "in", "try", "catch",
 ];

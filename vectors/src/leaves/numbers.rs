@@ -41,13 +41,20 @@ fn add_value(sheet: &mut Sheet, m: u64, k: usize) {
 }
 
 /// A number by rule 4: digits, then if a point follows, the point and further digits.
-struct Numeral {
+pub(crate) struct Numeral {
     size: usize,
     /// A point was read, and the number runs to the last byte.
-    cut: bool,
+    pub(crate) cut: bool,
     /// All its digits as one whole number, and 2^53 + 1 for a larger one.
     whole: u64,
     places: usize,
+}
+
+impl Numeral {
+    /// Whether its value is not given.
+    pub(crate) fn is_long(&self) -> bool {
+        self.whole > MOST_DIGITS || self.places > MOST_PLACES
+    }
 }
 
 /// How many digits stand at the front.
@@ -55,7 +62,7 @@ fn digits(bytes: &[u8]) -> usize {
     bytes.iter().take_while(|b| b.is_ascii_digit()).count()
 }
 
-fn numeral(bytes: &[u8]) -> Numeral {
+pub(crate) fn numeral(bytes: &[u8]) -> Numeral {
     let whole = digits(bytes);
     let (size, places) = match bytes[whole..].split_first() {
         Some((b'.', rest)) => (whole + 1 + digits(rest), digits(rest)),
@@ -153,7 +160,7 @@ fn add_values(sheet: &mut Sheet) {
 }
 
 /// Number texts with whole numbers and fractions on both sides of each bound.
-const TEXTS: &str = "
+pub(crate) const TEXTS: &str = "
     0 7 9 00 007 10 0.1 1.5 0.3 123456.789 1. 0. 00.50 3.14159265358979
     9007199254740991 9007199254740992 9007199254740993 9007199254740994 09007199254740992
     900719925474099.2 900719925474099.3 0.9007199254740992 0.9007199254740993

@@ -13,15 +13,15 @@ use oracle::token::{Literal, Token, TokenData};
 use oracle::{message_number, Reading, Stop};
 
 /// The longest source that is read.
-const MOST_BYTES: usize = 65_535;
+pub(crate) const MOST_BYTES: usize = 65_535;
 
 /// What fills a buffer before a decoding.
 const FILLER: u8 = 0xaa;
 
 /// A string, read from the byte after its opening quote.
-struct Reach {
+pub(crate) struct Reach {
     /// The bytes passed, the closing quote among them.
-    size: usize,
+    pub(crate) size: usize,
     /// The newlines passed that no backslash escapes.
     lines: usize,
     /// What a closed string stands for.
@@ -29,7 +29,7 @@ struct Reach {
 }
 
 /// Rule 5, from the byte after an opening quote.
-fn string(bytes: &[u8], from: usize) -> Reach {
+pub(crate) fn string(bytes: &[u8], from: usize) -> Reach {
     let mut rest = bytes.get(from..).unwrap_or(&[]).iter();
     let whole = rest.len();
     let mut lines = 0;
@@ -170,7 +170,7 @@ pub fn add(sheet: &mut Sheet) {
 }
 
 /// Strings from the first byte on that are closed.
-const CLOSED: [&str; 20] = [
+pub(crate) const CLOSED: [&str; 20] = [
     r#""""#,
     r#""a""#,
     r#""abc""#,
@@ -194,7 +194,7 @@ const CLOSED: [&str; 20] = [
 ];
 
 /// Strings that the end leaves open, or a backslash before a byte that is no escape.
-const BROKEN: [&str; 20] = [
+pub(crate) const BROKEN: [&str; 20] = [
     r#"""#,
     r#""a"#,
     r#""a\"#,

@@ -15,7 +15,7 @@ const FIRST_BYTES: [(RangeInclusive<u8>, usize); 4] = [
 ];
 
 /// How many bytes follow a first byte, if the test knows it.
-fn following(first: u8) -> Option<usize> {
+pub(crate) fn following(first: u8) -> Option<usize> {
     let (_, count) = FIRST_BYTES
         .iter()
         .find(|(range, _)| range.contains(&first))?;

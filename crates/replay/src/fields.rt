@@ -142,9 +142,9 @@ fn pairs(s: &[u8], from: usize, out: &mut [u8]) -> Field {
     }
 }
 
-// The place after a pair. A line has at most the 65,536 bytes of the input, so the test only keeps the sum from wrapping.
+// The place after a pair. A line has at most the 262,144 bytes of the input, so the test only keeps the sum from wrapping.
 fn past(at: usize) -> usize {
-    if at < 65536 { at + 2 } else { at }
+    if at < 262144 { at + 2 } else { at }
 }
 
 // The byte whose two digits stand at a place; 256 where none does.

@@ -1,9 +1,9 @@
--- `leaves_test::print::words` is safe and ends. Nothing has to hold from turn to turn; the measure is what is left of the table. Assumes nothing.
+-- `replay::print::words` is safe and ends. Nothing has to hold from turn to turn; the measure is what is left of the table. Assumes nothing.
 use borrow.Author.Needs.{needs}
 use Prim.Native.Nat.{_-_}
 use lib.ListN.{length}
-use Rattle.leaves_test.proofs.print.words.Statement.{statement}
-use Rattle.leaves_test.proofs.print.words.Tie as tie
+use Rattle.replay.proofs.print.words.Statement.{statement}
+use Rattle.replay.proofs.print.words.Tie as tie
 
 abbrev Inv-loop : tie.InvT-loop
 Inv-loop t i₀ i = Unit {0}

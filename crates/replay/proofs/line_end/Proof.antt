@@ -1,9 +1,9 @@
--- `leaves_test::line_end` meets its contract. The place is never before the start; the measure is what is left of the input. Assumes nothing.
+-- `replay::line_end` meets its contract. The place is never before the start; the measure is what is left of the input. Assumes nothing.
 use borrow.Author.Needs.{needs}
 use Prim.Native.Nat.{_-_, _≤_}
 use lib.ListN.{length}
-use Rattle.leaves_test.proofs.line_end.Statement.{statement}
-use Rattle.leaves_test.proofs.line_end.Tie as tie
+use Rattle.replay.proofs.line_end.Statement.{statement}
+use Rattle.replay.proofs.line_end.Tie as tie
 
 abbrev Inv-loop : tie.InvT-loop
 Inv-loop s from at₀ at = from ≤ at

@@ -1,9 +1,9 @@
--- `leaves_test::fields::digits` is safe and ends. Nothing has to hold from turn to turn; the measure is what is left of the line. Assumes nothing.
+-- `replay::fields::digits` is safe and ends. Nothing has to hold from turn to turn; the measure is what is left of the line. Assumes nothing.
 use borrow.Author.Needs.{needs}
 use Prim.Native.Nat.{_-_}
 use lib.ListN.{length}
-use Rattle.leaves_test.proofs.fields.digits.Statement.{statement}
-use Rattle.leaves_test.proofs.fields.digits.Tie as tie
+use Rattle.replay.proofs.fields.digits.Statement.{statement}
+use Rattle.replay.proofs.fields.digits.Tie as tie
 
 abbrev Inv-loop : tie.InvT-loop
 Inv-loop s from value₀ at₀ value at = Unit {0}

@@ -1,9 +1,9 @@
--- `leaves_test::print::bytes` is safe and ends. Nothing has to hold from turn to turn; the measure is what is left of the byte string. Assumes nothing.
+-- `replay::print::bytes` is safe and ends. Nothing has to hold from turn to turn; the measure is what is left of the byte string. Assumes nothing.
 use borrow.Author.Needs.{needs}
 use Prim.Native.Nat.{_-_}
 use lib.ListN.{length}
-use Rattle.leaves_test.proofs.print.bytes.Statement.{statement}
-use Rattle.leaves_test.proofs.print.bytes.Tie as tie
+use Rattle.replay.proofs.print.bytes.Statement.{statement}
+use Rattle.replay.proofs.print.bytes.Tie as tie
 
 abbrev Inv-loop : tie.InvT-loop
 Inv-loop s i₀ i = Unit {0}

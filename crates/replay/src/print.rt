@@ -5,6 +5,12 @@ pub(crate) fn letter(c: u8) {
     io::write_all(1, &text);
 }
 
+// A letter within an answer: it says what the fields after it are.
+pub(crate) fn mark(c: u8) {
+    let text = [b' ', c];
+    io::write_all(1, &text);
+}
+
 pub(crate) fn number(n: u64) {
     io::write_all(1, b" ");
     io::print_decimal(1, n);
@@ -51,6 +57,11 @@ pub(crate) fn bytes(s: &[u8]) {
 
 fn byte(b: u8) {
     io::print_hex(1, b as u64, 2);
+}
+
+// The field of a value that is not as it must be.
+pub(crate) fn wrong() {
+    io::write_all(1, b" ?");
 }
 
 pub(crate) fn end() {

@@ -1,11 +1,11 @@
--- `leaves_test::fields::pairs` is safe and ends. The buffer keeps its length; the measure is what is left of it. Assumes nothing.
+-- `replay::fields::pairs` is safe and ends. The buffer keeps its length; the measure is what is left of it. Assumes nothing.
 use mathlib.Core.Path.{_≡_}
 use borrow.Author.Needs.{needs}
 use Prim.Native.Nat.{_-_}
 use lib.ListN.{length, length-set}
 use native.Mathlib.Omega.{arith}
-use Rattle.leaves_test.proofs.fields.pairs.Statement.{statement}
-use Rattle.leaves_test.proofs.fields.pairs.Tie as tie
+use Rattle.replay.proofs.fields.pairs.Statement.{statement}
+use Rattle.replay.proofs.fields.pairs.Tie as tie
 
 abbrev Inv-loop : tie.InvT-loop
 Inv-loop s from out₀ at₀ i₀ out at i = length out ≡ length out₀

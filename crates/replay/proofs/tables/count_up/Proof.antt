@@ -1,11 +1,11 @@
--- `leaves_test::tables::count_up` is safe and ends. The table keeps its length; the measure is what is left of it. Assumes nothing.
+-- `replay::tables::count_up` is safe and ends. The table keeps its length; the measure is what is left of it. Assumes nothing.
 use mathlib.Core.Path.{_≡_}
 use borrow.Author.Needs.{needs}
 use Prim.Native.Nat.{_-_}
 use lib.ListN.{length, length-set}
 use native.Mathlib.Omega.{arith}
-use Rattle.leaves_test.proofs.tables.count_up.Statement.{statement}
-use Rattle.leaves_test.proofs.tables.count_up.Tie as tie
+use Rattle.replay.proofs.tables.count_up.Statement.{statement}
+use Rattle.replay.proofs.tables.count_up.Tie as tie
 
 abbrev Inv-loop : tie.InvT-loop
 Inv-loop t₀ v₀ i₀ t v i = length t ≡ length t₀

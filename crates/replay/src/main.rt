@@ -1,16 +1,26 @@
-// Runs the leaf crates on test vectors: a line of standard input is a vector, and a line of standard output its answer. What is right stands in
-// the file `stdout`, which the Rust crate `vectors` makes; here it is proved only that every line has an answer and that nothing goes wrong.
+// Runs the leaf crates and the lexer on test vectors: a line of standard input is a vector, and a line of standard output its answer. What is
+// right stands in the file `stdout`, which the Rust crate `vectors` makes; here it is proved only that nothing goes wrong on any input.
 mod bytes;
 mod fields;
+mod lexing;
 mod print;
 mod tables;
 
+ghost use mathlib.Core.Path.{_≡_};
 ghost use Prim.Native.Nat.{_≤_};
+ghost use lib.ListN.{length};
 
 fn main() {
-    let mut input = io::large_buffer();
+    let mut input = buffer();
     let n = io::read_full(0, &mut input);
     lines(&input[..n]);
+}
+
+// Room for the whole of standard input: the vectors nearly fill the 65,536 bytes of the largest buffer of `io`.
+fn buffer() -> [u8; 262144]
+    ensures { λ r. ⌜ 262144 ≡ length r ⌝ }
+{
+    [0; 262144]
 }
 
 // Answers every line. The last one may lack its newline.
@@ -50,13 +60,15 @@ fn line(s: &[u8], at: usize, end: usize) {
     }
 }
 
-// The letter says what a vector's fields are: a byte string in front, a table's size in front, or numbers only.
+// The letter says what a vector's fields are: a byte string in front, a table's size in front, or numbers only. A `#` starts a comment.
 fn answer(s: &[u8]) {
     match fields::letter(s) {
         b'k' | b'x' | b'n' | b'e' | b's' | b'd' => bytes::vector(s),
         b't' | b'o' | b'p' | b'l' | b'z' | b'r' => tables::vector(s),
         b'v' => bytes::value(s),
         b'u' => bytes::too_long(s),
+        b'c' => lexing::vector(s),
+        b'#' => {}
         _ => print::unknown(),
     }
 }

@@ -1,9 +1,9 @@
--- `leaves_test::lines` is safe and ends. Nothing has to hold from turn to turn; the measure is what is left of the input, less with each line. Assumes nothing.
+-- `replay::lines` is safe and ends. Nothing has to hold from turn to turn; the measure is what is left of the input, less with each line. Assumes nothing.
 use borrow.Author.Needs.{needs}
 use Prim.Native.Nat.{_-_}
 use lib.ListN.{length}
-use Rattle.leaves_test.proofs.lines.Statement.{statement}
-use Rattle.leaves_test.proofs.lines.Tie as tie
+use Rattle.replay.proofs.lines.Statement.{statement}
+use Rattle.replay.proofs.lines.Tie as tie
 
 abbrev Inv-loop : tie.InvT-loop
 Inv-loop s at₀ at = Unit {0}

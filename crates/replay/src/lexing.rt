@@ -1,0 +1,185 @@
+// The vectors of the lexer: a source is lexed into tables of given sizes, and the answer has every record that is kept.
+use crate::fields;
+use crate::fields::Field;
+use crate::print;
+
+// c HEX tokens errors: the bytes lexed into a token table and an error table of so many words. A source has at most 4,096 bytes.
+pub(crate) fn vector(s: &[u8]) {
+    let mut b = [0u8; 4096];
+    decoded(s, &mut b);
+}
+
+fn decoded(s: &[u8], b: &mut [u8]) {
+    let f = fields::string(s, b);
+    let n = f.value as usize;
+    if n <= b.len() {
+        on_source(s, f, &b[0..n]);
+    } else {
+        print::unknown();
+    }
+}
+
+// A table has at most 4,096 words, each 7 before.
+fn on_source(s: &[u8], f: Field, source: &[u8]) {
+    let t = fields::number(s, f);
+    let e = fields::number(s, t);
+    if fields::whole(s, e) {
+        let mut tokens = [7u32; 4096];
+        let mut errors = [7u32; 4096];
+        with_tables(
+            source,
+            &mut tokens,
+            t.value as usize,
+            &mut errors,
+            e.value as usize,
+        );
+    } else {
+        print::unknown();
+    }
+}
+
+fn with_tables(source: &[u8], tokens: &mut [u32], t: usize, errors: &mut [u32], e: usize) {
+    if t <= tokens.len() {
+        if e <= errors.len() {
+            scan(source, &mut tokens[0..t], &mut errors[0..e]);
+            return;
+        }
+    }
+    print::unknown();
+}
+
+// The answer, the kept tokens, the kept errors, and how many words behind them have changed.
+fn scan(source: &[u8], tokens: &mut [u32], errors: &mut [u32]) {
+    let r = lexer::scan(source, tokens, errors);
+    print::letter(b'c');
+    print::word(r.outcome);
+    print::word(r.tokens);
+    print::word(r.errors);
+    each_token(source, tokens, r.tokens);
+    each_error(errors, r.errors);
+    let t = changed(tokens, 7 * (r.tokens as usize));
+    let e = changed(errors, 3 * (r.errors as usize));
+    print::mark(b'u');
+    print::number(std::num::wrapping_add_u64(t, e));
+    print::end();
+}
+
+fn each_token(source: &[u8], tokens: &[u32], n: u32) {
+    let mut i = 0;
+    while i < n {
+        token(source, tokens, 7 * (i as usize));
+        i += 1;
+    }
+}
+
+// The token whose words start at a place: kind, bytes, line and value.
+fn token(source: &[u8], tokens: &[u32], at: usize) {
+    if at < tokens.len() {
+        record(source, &tokens[at..]);
+    }
+}
+
+fn record(source: &[u8], t: &[u32]) {
+    if t.len() < 7 {
+        return;
+    }
+    print::mark(b't');
+    print::word(t[0]);
+    span(source, t[1], t[2]);
+    print::word(t[3]);
+    value(source, t[1], t[4], t[5], t[6]);
+}
+
+fn span(source: &[u8], start: u32, length: u32) {
+    part(source, start as usize, length as usize);
+}
+
+// So many bytes of the source from start on.
+fn part(source: &[u8], start: usize, length: usize) {
+    if start <= source.len() {
+        if length <= source.len() - start {
+            let end = start + length;
+            print::bytes(&source[start..end]);
+            return;
+        }
+    }
+    print::wrong();
+}
+
+// The value sort; then the bytes of a text, the words of a number, or 0 for a value that has no words.
+fn value(source: &[u8], start: u32, sort: u32, low: u32, high: u32) {
+    print::word(sort);
+    if sort == 2 {
+        print::word(low);
+        print::word(high);
+        return;
+    }
+    if high != 0 {
+        print::wrong();
+        return;
+    }
+    if sort == 1 {
+        let mut out = [0u8; 4096];
+        text(source, start as usize, &mut out, low as usize);
+    } else {
+        print::word(low);
+    }
+}
+
+// The string at start, decoded into a buffer of just the length that its token tells.
+fn text(source: &[u8], start: usize, out: &mut [u8], length: usize) {
+    if length <= out.len() {
+        into(source, start, &mut out[0..length]);
+    } else {
+        print::wrong();
+    }
+}
+
+fn into(source: &[u8], start: usize, out: &mut [u8]) {
+    let d = strings::decode(source, start, out);
+    if (d.outcome == 0) & (d.length == out.len()) {
+        print::bytes(out);
+    } else {
+        print::wrong();
+    }
+}
+
+fn each_error(errors: &[u32], n: u32) {
+    let mut i = 0;
+    while i < n {
+        error(errors, 3 * (i as usize));
+        i += 1;
+    }
+}
+
+// The error whose words start at a place: message, line and pos.
+fn error(errors: &[u32], at: usize) {
+    if at < errors.len() {
+        message(&errors[at..]);
+    }
+}
+
+fn message(e: &[u32]) {
+    if e.len() < 3 {
+        return;
+    }
+    print::mark(b'e');
+    print::word(e[0]);
+    print::word(e[1]);
+    print::word(e[2]);
+}
+
+// How many words from a place on are not 7. No table is so long that the sum could wrap.
+fn changed(t: &[u32], from: usize) -> u64 {
+    let mut n = 0;
+    let mut i = from;
+    while i < t.len() {
+        n = std::num::wrapping_add_u64(n, is_changed(t[i]));
+        i += 1;
+    }
+    n
+}
+
+fn is_changed(w: u32) -> u64 {
+    if w == 7 { 0 } else { 1 }
+}

@@ -1,0 +1,124 @@
+//! `c HEX tokens errors`: the bytes lexed into a token table and an error table of so many words.
+//!
+//! The answer is `c OUTCOME TOKENS ERRORS`; then, for each token that is kept, `t KIND HEX LINE
+//! SORT VALUE` with the bytes that it stands for; for each error that is kept, `e MESSAGE LINE
+//! POS`; and `u 0`: no word behind the kept records has changed.
+
+mod judge;
+mod scripts;
+
+use crate::dice::Dice;
+use crate::sheet::{hex, Sheet};
+use judge::{ERROR_WIDTH, TOKEN_WIDTH};
+
+/// The most words of a table.
+const MOST_WORDS: usize = 4096;
+
+/// The seed of the random scripts and of their tables.
+const SEED: u64 = 0x6c65_7869_6e67;
+
+/// How many random scripts there are, and how many of these with tables that may be short.
+const RANDOM: usize = 180;
+const RANDOM_SHORT: usize = 40;
+
+/// Lines that are no vectors: a field too few or too many, a table too large, a broken byte string.
+const NO_VECTORS: [&str; 7] = [
+    "c",
+    "c 61",
+    "c 61 7",
+    "c 61 7 3 1",
+    "c 61 4097 3",
+    "c 61 7 4097",
+    "c 616 7 3",
+];
+
+/// How the vectors were made.
+pub fn comment(sheet: &mut Sheet) {
+    sheet.comment(
+        "c: lexing, see vectors/src/lexing.rs. Tokens and errors are those of the original,",
+    );
+    sheet.comment(
+        "the crate `oracle`: Grotsky's lexer.rs, commit f3837697bb; outcome 2 is its panic.",
+    );
+    sheet.comment("Outcomes 3 to 6 follow from its answer, the text test and the tables' sizes");
+    sheet.comment(&format!(
+        "by document 01, 'Outcomes'. Random scripts: {RANDOM}, xorshift64, seed {SEED:#x}"
+    ));
+}
+
+pub fn add(sheet: &mut Sheet) {
+    for script in scripts::fixed() {
+        add_large(sheet, &script);
+    }
+    for script in scripts::no_texts() {
+        add_large(sheet, script);
+        add_script(sheet, script, 0, 0);
+    }
+    for script in scripts::FOR_SHORT_TABLES {
+        add_short(sheet, script.as_bytes());
+    }
+    add_random(sheet);
+    for line in NO_VECTORS {
+        sheet.add_unknown(line);
+    }
+}
+
+fn add_script(sheet: &mut Sheet, source: &[u8], token_words: usize, error_words: usize) {
+    sheet.add(
+        'c',
+        &[&hex(source), &token_words, &error_words],
+        &[&judge::answer(source, token_words, error_words)],
+    );
+}
+
+/// A script with room for everything.
+fn add_large(sheet: &mut Sheet, source: &[u8]) {
+    let (tokens, errors) = judge::counts(source);
+    assert!(tokens * TOKEN_WIDTH <= MOST_WORDS && errors * ERROR_WIDTH <= MOST_WORDS);
+    add_script(sheet, source, MOST_WORDS, MOST_WORDS);
+}
+
+/// Sizes of a table for so many records: none, one word and one record short, exactly full, and
+/// with the longest spare tail.
+fn sizes(records: usize, width: usize) -> [usize; 5] {
+    let full = records * width;
+    [
+        0,
+        full.saturating_sub(width),
+        full.saturating_sub(1),
+        full,
+        full + width - 1,
+    ]
+}
+
+/// A script with each table around the size that it needs, beside a large one and beside one
+/// record too few.
+fn add_short(sheet: &mut Sheet, source: &[u8]) {
+    let (tokens, errors) = judge::counts(source);
+    let token_sizes = sizes(tokens, TOKEN_WIDTH);
+    let error_sizes = sizes(errors, ERROR_WIDTH);
+    for words in token_sizes {
+        add_script(sheet, source, words, MOST_WORDS);
+        add_script(sheet, source, words, error_sizes[1]);
+    }
+    for words in error_sizes {
+        add_script(sheet, source, MOST_WORDS, words);
+        add_script(sheet, source, token_sizes[1], words);
+    }
+}
+
+/// Random scripts with large tables, and with tables of any size up to just more than enough.
+fn add_random(sheet: &mut Sheet) {
+    let mut dice = Dice::new(SEED);
+    for number in 0..RANDOM {
+        let source = dice.string(&scripts::PIECES, 14);
+        if number >= RANDOM_SHORT {
+            add_large(sheet, &source);
+            continue;
+        }
+        let (tokens, errors) = judge::counts(&source);
+        let token_words = dice.roll(((tokens + 1) * TOKEN_WIDTH) as u64) as usize;
+        let error_words = dice.roll(((errors + 1) * ERROR_WIDTH) as u64) as usize;
+        add_script(sheet, &source, token_words, error_words);
+    }
+}

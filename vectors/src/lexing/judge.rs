@@ -1,0 +1,174 @@
+//! The judge of lexing: the original's tokens and errors in reading order, and what tables of a
+//! given size keep of them.
+
+use crate::leaves::numbers::numeral;
+use crate::leaves::strings::{string, MOST_BYTES};
+use crate::leaves::text::{following, is_text};
+use crate::sheet::hex;
+use oracle::state::InterpreterError;
+use oracle::token::{Literal, TokenData};
+use oracle::{message_number, Stop};
+
+/// The words of a token record and of an error record.
+pub const TOKEN_WIDTH: usize = 7;
+pub const ERROR_WIDTH: usize = 3;
+
+/// What lexing does, one thing after the other; a record is the fields of the answer.
+enum Event {
+    Token(String),
+    Error(String),
+    /// A number with a point runs to the last byte.
+    Cut,
+}
+
+/// The whole answer, with tables of so many words.
+pub fn answer(source: &[u8], token_words: usize, error_words: usize) -> String {
+    let kept = keep(source, token_words / TOKEN_WIDTH, error_words / ERROR_WIDTH);
+    let counts = format!(
+        "{} {} {}",
+        kept.outcome,
+        kept.tokens.len(),
+        kept.errors.len()
+    );
+    [vec![counts], kept.tokens, kept.errors, vec!["u 0".into()]]
+        .concat()
+        .join(" ")
+}
+
+/// How many tokens and errors a script has, with room for all.
+pub fn counts(source: &[u8]) -> (usize, usize) {
+    let all = keep(source, usize::MAX, usize::MAX);
+    (all.tokens.len(), all.errors.len())
+}
+
+#[derive(Default)]
+struct Kept {
+    outcome: u32,
+    tokens: Vec<String>,
+    errors: Vec<String>,
+}
+
+/// Document 01, 'Outcomes': 4 is tested first, then 3; after that the first event in reading
+/// order decides, and what came before is kept.
+fn keep(source: &[u8], token_room: usize, error_room: usize) -> Kept {
+    let mut kept = Kept::default();
+    if source.len() > MOST_BYTES {
+        kept.outcome = 4;
+        return kept;
+    }
+    if !is_text(source) {
+        kept.outcome = 3;
+        return kept;
+    }
+    for event in events(source) {
+        match event {
+            Event::Cut => kept.outcome = 2,
+            Event::Token(_) if kept.tokens.len() == token_room => kept.outcome = 5,
+            Event::Error(_) if kept.errors.len() == error_room => kept.outcome = 6,
+            Event::Token(record) => kept.tokens.push(record),
+            Event::Error(record) => kept.errors.push(record),
+        }
+        if kept.outcome != 0 {
+            break;
+        }
+    }
+    kept
+}
+
+/// The original's tokens and errors, each put where the source has it. The original tells where an
+/// error stands but not where a token does, so the source is walked: the next token is the first
+/// that no blank, comment or error takes, and its bytes must be there.
+fn events(source: &[u8]) -> Vec<Event> {
+    let script = stand_in(source);
+    let reading = oracle::read(&script);
+    let mut tokens = reading.tokens.iter();
+    let mut errors = reading.errors.iter().filter(|e| message(e) <= 3).peekable();
+    let mut events = vec![];
+    let mut at = 0;
+    while at < source.len() {
+        if let Some(error) = errors.next_if(|e| e.pos == at) {
+            let message = message(error);
+            events.push(Event::Error(format!("e {message} {} {at}", error.line)));
+            at += match message {
+                3 => 1 + string(source, at + 1).size,
+                _ => 1,
+            };
+        } else if b" \t\r".contains(&source[at]) {
+            at += 1;
+        } else if source[at] == b'#' {
+            at += source[at..].iter().take_while(|b| **b != b'\n').count();
+        } else if let Some(token) = tokens.next() {
+            let end = at + token.lexeme.len();
+            assert!(at < end, "a token before the end has bytes");
+            assert_eq!(token.lexeme, script[at..end]);
+            events.push(Event::Token(record(token, &source[at..end])));
+            at = end;
+        } else {
+            assert!(numeral(&source[at..]).cut, "only a number stops the lexing");
+            assert_eq!(reading.stop, Stop::Lexing);
+            events.push(Event::Cut);
+            return events;
+        }
+    }
+    assert_ne!(reading.stop, Stop::Lexing);
+    assert!(errors.next().is_none(), "every error has its place");
+    for token in tokens {
+        assert_eq!(token.lexeme, "", "only empty tokens stand at the end");
+        events.push(Event::Token(record(token, b"")));
+    }
+    events
+}
+
+/// The number of an error's message.
+fn message(error: &InterpreterError) -> u32 {
+    message_number(&error.message).expect("a message of the original")
+}
+
+/// A script for the original. The text test lets in groups that are no letter of Rust: another
+/// letter of the same size stands for each, since lexing treats all of them alike.
+fn stand_in(source: &[u8]) -> String {
+    let mut script = String::new();
+    let mut rest = source;
+    while let Some(first) = rest.first() {
+        let (group, next) = rest.split_at(1 + following(*first).expect("a text"));
+        script += match (std::str::from_utf8(group), group.len()) {
+            (Ok(letter), _) => letter,
+            (Err(_), 3) => "\u{20ac}",
+            (Err(_), _) => "\u{1f600}",
+        };
+        rest = next;
+    }
+    assert_eq!(script.len(), source.len());
+    script
+}
+
+/// The fields of a token that stands for these bytes.
+fn record(token: &TokenData, bytes: &[u8]) -> String {
+    let value = match &token.literal {
+        None => "0 0".to_string(),
+        Some(Literal::String(text)) => format!("1 {}", hex(&restored(text, bytes))),
+        Some(Literal::Number(_)) if numeral(bytes).is_long() => "3 0".to_string(),
+        Some(Literal::Number(value)) => {
+            let bits = value.to_bits();
+            format!("2 {} {}", bits & 0xffff_ffff, bits >> 32)
+        }
+        Some(other) => panic!("lexing gives no {other:?}"),
+    };
+    let (kind, line) = (token.token as u32, token.line);
+    format!("t {kind} {} {line} {value}", hex(bytes))
+}
+
+/// A decoded text with the source's own bytes where letters stood for them: no escape touches a
+/// byte that is not ASCII, so these are the same in the same order.
+fn restored(text: &str, bytes: &[u8]) -> Vec<u8> {
+    let mut own = bytes.iter().copied().filter(|b| !b.is_ascii());
+    text.bytes()
+        .map(|b| {
+            if b.is_ascii() {
+                b
+            } else {
+                own.next().expect("as many bytes")
+            }
+        })
+        .collect()
+}
