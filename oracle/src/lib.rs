@@ -66,7 +66,7 @@ pub enum Stop {
 /// Any other panic would be a mistake in this crate's picture of the original, and panics here.
 pub fn read(source: &str) -> Reading {
     let mut state = InterpreterState::new(source.to_string());
-    let stop = if !ends(|| Lexer::new(&mut state).scan(), &["index out of bounds"]) {
+    let stop = if !scans(&mut state) {
         Stop::Lexing
     } else if !ends(
         || Parser::new(&mut state).parse(),
@@ -76,12 +76,34 @@ pub fn read(source: &str) -> Reading {
     } else {
         Stop::None
     };
-    Reading {
-        tokens: state.tokens,
-        errors: state.errors,
-        stmts: state.stmts,
-        stop,
+    Reading::of(state, stop)
+}
+
+/// Lexes a fresh state as `read` does, but parses nothing: no statements, the lexer's errors only.
+pub fn lex(source: &str) -> Reading {
+    let mut state = InterpreterState::new(source.to_string());
+    let stop = if scans(&mut state) {
+        Stop::None
+    } else {
+        Stop::Lexing
+    };
+    Reading::of(state, stop)
+}
+
+impl Reading {
+    fn of(state: InterpreterState, stop: Stop) -> Reading {
+        Reading {
+            tokens: state.tokens,
+            errors: state.errors,
+            stmts: state.stmts,
+            stop,
+        }
     }
+}
+
+/// Runs the lexer: `false` if it panics in `number`.
+fn scans(state: &mut InterpreterState) -> bool {
+    ends(|| Lexer::new(state).scan(), &["index out of bounds"])
 }
 
 thread_local! {
@@ -109,7 +131,7 @@ fn ends(part: impl FnOnce(), expected: &[&str]) -> bool {
     false
 }
 
-/// Puts a panic hook before the usual one that prints nothing on a thread that is inside `read`.
+/// Puts a panic hook before the usual one that prints nothing on a thread that runs the original.
 /// Panics elsewhere, such as a failing test's, are printed as before.
 fn keep_expected_panics_quiet() {
     static DONE: Once = Once::new();

@@ -1,0 +1,144 @@
+/*
+ * Serves calls of the Rattle library: requests on standard input, answers on standard output.
+ *
+ * The library's archive is for x86-64. As a program of its own this file can be run by an emulator
+ * where the machine is another one, while the test that asks is built for that machine.
+ *
+ * A request is five 32-bit words, lowest byte first:
+ *   1, length, behind, 0, 0               sets the source; its bytes follow; no answer
+ *   2, token words, error words, fill, 0  lexes it
+ *   3, buffer bytes, fill, start, start   decodes the string at start (low word, high word)
+ * An answer is four words and then the tables, or the buffer, as the call left them:
+ *   outcome, tokens, errors, intact       after 2; the token words and the error words follow
+ *   outcome, length, length, intact       after 3 (low word, high word); the buffer's bytes follow
+ * Each table lies between guards; intact is 1 if all of them are as they were, else 0.
+ *
+ * No header is included: the toolchain's compiler comes without those of the C library.
+ */
+typedef unsigned char u8;
+typedef unsigned int u32;
+typedef unsigned long usize; /* 64 bits on x86-64 Linux */
+
+long read(int file, void *bytes, usize length);
+long write(int file, const void *bytes, usize length);
+void *memset(void *bytes, int value, usize length);
+void *memcpy(void *to, const void *from, usize length);
+void exit(int status) __attribute__((noreturn));
+
+/* The border: a slice is a pointer and a length, an answer is a struct as C lays it out. */
+struct Scanned { u32 outcome, tokens, errors; };
+struct Decoded { u32 outcome; usize length; };
+struct Scanned kettleplume_scan(const u8 *source, usize length, u32 *tokens, usize token_words,
+                                u32 *errors, usize error_words);
+struct Decoded kettleplume_decode(const u8 *source, usize length, usize start, u8 *buffer, usize room);
+
+enum {
+    GUARD = 8, /* words or bytes on each side of a table */
+    SOURCE = 1 << 17,
+    TOKEN_WORDS = 7 * (1 << 16) + 64,
+    ERROR_WORDS = 3 * (1 << 16) + 64,
+    BUFFER = 1 << 17,
+    PIPE = 1 << 16
+};
+static const u32 GUARD_WORD = 0x5aa5c33cu;
+static const u8 GUARD_BYTE = 0x5a;
+
+static u8 source[SOURCE + GUARD];
+static usize source_length;
+static u32 tokens[TOKEN_WORDS + 2 * GUARD];
+static u32 errors[ERROR_WORDS + 2 * GUARD];
+static u8 buffer[BUFFER + 2 * GUARD];
+
+static u8 in[PIPE], out[PIPE];
+static usize in_at, in_end, out_end;
+
+static void flush(void) {
+    for (usize sent = 0; sent < out_end;) {
+        long n = write(1, out + sent, out_end - sent);
+        if (n <= 0) exit(3);
+        sent += (usize)n;
+    }
+    out_end = 0;
+}
+
+static void put(const void *from, usize length) {
+    for (const u8 *bytes = from; length > 0;) {
+        if (out_end == PIPE) flush();
+        usize n = length < PIPE - out_end ? length : PIPE - out_end;
+        memcpy(out + out_end, bytes, n);
+        out_end += n, bytes += n, length -= n;
+    }
+}
+
+/* Fills `to`; the end of the input, which is the end of the work, ends the program. */
+static void get(void *to, usize length) {
+    for (u8 *bytes = to; length > 0;) {
+        if (in_at == in_end) {
+            flush(); /* before waiting, so that all answers are on their way */
+            long n = read(0, in, PIPE);
+            if (n <= 0) exit(0);
+            in_at = 0, in_end = (usize)n;
+        }
+        usize n = length < in_end - in_at ? length : in_end - in_at;
+        memcpy(bytes, in + in_at, n);
+        in_at += n, bytes += n, length -= n;
+    }
+}
+
+/* A table of that many words, filled, with a guard before and behind it. */
+static void lay(u32 *table, usize words, u32 fill) {
+    for (usize i = 0; i < words + 2 * GUARD; i++)
+        table[i] = i < GUARD || i >= GUARD + words ? GUARD_WORD : fill;
+}
+
+static u32 intact(const u32 *table, usize words) {
+    for (usize i = 0; i < GUARD; i++)
+        if (table[i] != GUARD_WORD || table[GUARD + words + i] != GUARD_WORD) return 0;
+    return 1;
+}
+
+static void set_source(usize length, u8 behind) {
+    if (length > SOURCE) exit(2);
+    get(source, length);
+    memset(source + length, behind, GUARD); /* what a reader that goes too far would see */
+    source_length = length;
+}
+
+static void lex(usize token_words, usize error_words, u32 fill) {
+    if (token_words > TOKEN_WORDS || error_words > ERROR_WORDS) exit(2);
+    lay(tokens, token_words, fill);
+    lay(errors, error_words, fill);
+    struct Scanned r = kettleplume_scan(source, source_length, tokens + GUARD, token_words,
+                                        errors + GUARD, error_words);
+    u32 whole = intact(tokens, token_words) & intact(errors, error_words);
+    u32 answer[4] = {r.outcome, r.tokens, r.errors, whole};
+    put(answer, sizeof answer);
+    put(tokens + GUARD, token_words * sizeof(u32));
+    put(errors + GUARD, error_words * sizeof(u32));
+}
+
+static void decode(usize room, u8 fill, usize start) {
+    if (room > BUFFER) exit(2);
+    memset(buffer, GUARD_BYTE, room + 2 * GUARD);
+    memset(buffer + GUARD, fill, room);
+    struct Decoded r = kettleplume_decode(source, source_length, start, buffer + GUARD, room);
+    u32 whole = 1;
+    for (usize i = 0; i < GUARD; i++)
+        if (buffer[i] != GUARD_BYTE || buffer[GUARD + room + i] != GUARD_BYTE) whole = 0;
+    u32 answer[4] = {r.outcome, (u32)r.length, (u32)(r.length >> 32), whole};
+    put(answer, sizeof answer);
+    put(buffer + GUARD, room);
+}
+
+int main(void) {
+    for (;;) {
+        u32 q[5];
+        get(q, sizeof q);
+        switch (q[0]) {
+        case 1: set_source(q[1], (u8)q[2]); break;
+        case 2: lex(q[1], q[2], q[3]); break;
+        case 3: decode(q[1], (u8)q[2], (usize)q[4] << 32 | q[3]); break;
+        default: return 2;
+        }
+    }
+}

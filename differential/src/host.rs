@@ -1,0 +1,295 @@
+//! Builds `host.c` with the library's archive and talks to it as a child process.
+//!
+//! The archive is for x86-64. There the system's `cc` links it; elsewhere the toolchain's own
+//! compiler and linker do, and its emulator runs the program. Both ways exercise the same archive
+//! and its C border. All tools are found from `rt` on the PATH.
+
+use std::env;
+use std::ffi::OsString;
+use std::fs;
+use std::io::{self, BufReader, Read as _, Write as _};
+use std::path::{Path, PathBuf};
+use std::process::{self, Child, ChildStdin, ChildStdout, Command, Stdio};
+use std::sync::OnceLock;
+use std::thread;
+
+/// What the host is asked. A source stays set until the next one.
+#[derive(Debug, Clone)]
+pub enum Request<'a> {
+    /// The bytes to read, and a byte that is put behind them for a reader that goes too far.
+    Source {
+        bytes: &'a [u8],
+        behind: u8,
+    },
+    Lex(LexCall),
+    Decode(DecodeCall),
+}
+
+/// A call of `kettleplume_scan`: the tables' sizes in words, and the word they are filled with.
+#[derive(Debug, Clone, Copy)]
+pub struct LexCall {
+    pub token_words: usize,
+    pub error_words: usize,
+    pub fill: u32,
+}
+
+/// A call of `kettleplume_decode`: where, the buffer's size, and the byte it is filled with.
+#[derive(Debug, Clone, Copy)]
+pub struct DecodeCall {
+    pub start: u64,
+    pub room: usize,
+    pub fill: u8,
+}
+
+/// The answer of `kettleplume_scan` and the tables afterwards.
+#[derive(Debug, Clone)]
+pub struct LexAnswer {
+    pub outcome: u32,
+    pub tokens: u32,
+    pub errors: u32,
+    /// Whether the guards round the tables are as they were.
+    pub intact: bool,
+    pub token_table: Vec<u32>,
+    pub error_table: Vec<u32>,
+}
+
+/// The answer of `kettleplume_decode` and the buffer afterwards.
+#[derive(Debug, Clone)]
+pub struct DecodeAnswer {
+    pub outcome: u32,
+    pub length: u64,
+    /// Whether the guards round the buffer are as they were.
+    pub intact: bool,
+    pub buffer: Vec<u8>,
+}
+
+/// What the host answers; a `Source` has no answer.
+#[derive(Debug, Clone)]
+pub enum Answer {
+    Lex(LexAnswer),
+    Decode(DecodeAnswer),
+}
+
+/// A running child.
+pub struct Host {
+    child: Child,
+    requests: Option<ChildStdin>,
+    answers: BufReader<ChildStdout>,
+}
+
+impl Host {
+    /// Builds the host, once in each process, and starts a child of its own.
+    pub fn start() -> Host {
+        static COMMAND: OnceLock<Vec<OsString>> = OnceLock::new();
+        let words = COMMAND.get_or_init(build);
+        let mut child = Command::new(&words[0])
+            .args(&words[1..])
+            .stdin(Stdio::piped())
+            .stdout(Stdio::piped())
+            .spawn()
+            .unwrap_or_else(|error| panic!("{words:?} doesn't start: {error}"));
+        let requests = child.stdin.take();
+        let answers = BufReader::with_capacity(1 << 16, child.stdout.take().expect("a pipe"));
+        Host {
+            child,
+            requests,
+            answers,
+        }
+    }
+
+    /// Sends all requests and hands each answer on as it comes, with its request's index. If the
+    /// child ends before, how it ended.
+    ///
+    /// A second thread does the sending: neither pipe can then fill up and stop both sides.
+    pub fn ask(
+        &mut self,
+        requests: &[Request],
+        mut each: impl FnMut(usize, Answer),
+    ) -> Result<(), String> {
+        let mut bytes = vec![];
+        requests.iter().for_each(|request| request.put(&mut bytes));
+        let pipe = self.requests.as_mut().expect("open until the end");
+        let answers = &mut self.answers;
+        let outcome = thread::scope(|scope| {
+            // A child that has gone is noticed by the reading below.
+            scope.spawn(|| pipe.write_all(&bytes).and_then(|()| pipe.flush()));
+            for (index, request) in requests.iter().enumerate() {
+                if let Some(answer) = request.answer(answers)? {
+                    each(index, answer);
+                }
+            }
+            Ok::<(), io::Error>(())
+        });
+        outcome.map_err(|error| match self.child.wait() {
+            Ok(status) => format!("{error}; {status}"),
+            Err(other) => format!("{error}; {other}"),
+        })
+    }
+}
+
+impl Drop for Host {
+    /// The end of its input ends the child.
+    fn drop(&mut self) {
+        self.requests = None;
+        let _ = self.child.wait();
+    }
+}
+
+impl Request<'_> {
+    fn put(&self, to: &mut Vec<u8>) {
+        let size = |n: usize| u32::try_from(n).expect("a size fits a word");
+        let words = match self {
+            Request::Source { bytes, behind } => [1, size(bytes.len()), u32::from(*behind), 0, 0],
+            Request::Lex(c) => [2, size(c.token_words), size(c.error_words), c.fill, 0],
+            Request::Decode(c) => {
+                let (low, high) = (c.start as u32, (c.start >> 32) as u32);
+                [3, size(c.room), u32::from(c.fill), low, high]
+            }
+        };
+        words
+            .iter()
+            .for_each(|word| to.extend_from_slice(&word.to_le_bytes()));
+        if let Request::Source { bytes, .. } = self {
+            to.extend_from_slice(bytes);
+        }
+    }
+
+    fn answer(&self, from: &mut BufReader<ChildStdout>) -> io::Result<Option<Answer>> {
+        Ok(match self {
+            Request::Source { .. } => None,
+            Request::Lex(call) => {
+                let head = words(from, 4)?;
+                Some(Answer::Lex(LexAnswer {
+                    outcome: head[0],
+                    tokens: head[1],
+                    errors: head[2],
+                    intact: head[3] == 1,
+                    token_table: words(from, call.token_words)?,
+                    error_table: words(from, call.error_words)?,
+                }))
+            }
+            Request::Decode(call) => {
+                let head = words(from, 4)?;
+                let mut buffer = vec![0; call.room];
+                from.read_exact(&mut buffer)?;
+                Some(Answer::Decode(DecodeAnswer {
+                    outcome: head[0],
+                    length: u64::from(head[2]) << 32 | u64::from(head[1]),
+                    intact: head[3] == 1,
+                    buffer,
+                }))
+            }
+        })
+    }
+}
+
+fn words(from: &mut BufReader<ChildStdout>, count: usize) -> io::Result<Vec<u32>> {
+    let mut bytes = vec![0; 4 * count];
+    from.read_exact(&mut bytes)?;
+    let word = |b: &[u8]| u32::from_le_bytes(b.try_into().expect("four bytes"));
+    Ok(bytes.chunks_exact(4).map(word).collect())
+}
+
+/// Builds the archive and the host; the command that starts the host.
+fn build() -> Vec<OsString> {
+    let rt = find_rt();
+    let here = Path::new(env!("CARGO_MANIFEST_DIR"));
+    let root = here.parent().expect("the crate lies in the repository");
+    run(Command::new(&rt)
+        .args(["staticlib", "reader"])
+        .current_dir(root));
+    let archive = root.join("target/staticlib/libreader.a");
+
+    // Below cargo's folder: `rt` removes its own. The name is this process's own until the program
+    // is complete, for two processes may build at the same time.
+    let folder = root.join("target-cargo/differential");
+    fs::create_dir_all(&folder)
+        .unwrap_or_else(|error| panic!("no folder {}: {error}", folder.display()));
+    let fresh = folder.join(format!("host.{}", process::id()));
+    let program = folder.join("host");
+    let source = here.join("host.c");
+    let words = if env::consts::ARCH == "x86_64" {
+        run(Command::new("cc")
+            .args(["-O2", "-o"])
+            .args([&fresh, &source, &archive]));
+        vec![program.clone().into()]
+    } else {
+        Toolchain::of(&rt).build(&source, &archive, &fresh);
+        Toolchain::of(&rt).command(&program)
+    };
+    fs::rename(&fresh, &program).unwrap_or_else(|error| panic!("no {program:?}: {error}"));
+    words
+}
+
+/// The real path of `rt`.
+fn find_rt() -> PathBuf {
+    let path = env::var_os("PATH").unwrap_or_default();
+    env::split_paths(&path)
+        .map(|folder| folder.join("rt"))
+        .find(|file| file.is_file())
+        .and_then(|file| file.canonicalize().ok())
+        .expect("the Rattle toolchain's command `rt` isn't on the PATH, and this test needs it")
+}
+
+/// The toolchain's own compiler, linker, C library and emulator for x86-64.
+struct Toolchain(PathBuf);
+
+impl Toolchain {
+    fn of(rt: &Path) -> Toolchain {
+        let top = rt.parent().and_then(Path::parent).unwrap_or(Path::new("/"));
+        let folder = top.join("on").join(env::consts::ARCH).join("toolchain");
+        assert!(
+            folder.is_dir(),
+            "{} isn't there: no tools for x86-64 on this machine",
+            folder.display()
+        );
+        Toolchain(folder)
+    }
+
+    fn bin(&self, name: &str) -> PathBuf {
+        self.0.join("bin").join(name)
+    }
+
+    fn lib(&self, name: &str) -> PathBuf {
+        self.0.join("lib").join(name)
+    }
+
+    fn build(&self, source: &Path, archive: &Path, program: &Path) {
+        let object = program.with_extension(format!("{}.o", process::id()));
+        run(Command::new(self.bin("clang"))
+            .args(["--target=x86_64-unknown-linux-gnu", "-O2", "-c", "-o"])
+            .args([&object, source]));
+        run(Command::new(self.bin("ld.lld"))
+            .args(["-pie", "-dynamic-linker", "/lib64/ld-linux-x86-64.so.2"])
+            .arg("-o")
+            .arg(program)
+            .args(["Scrt1.o", "crti.o", "crtbeginS.o"].map(|name| self.lib(name)))
+            .args([&object, archive])
+            .args(["libc.so.6", "libc_nonshared.a", "libgcc.a"].map(|name| self.lib(name)))
+            .args(["crtendS.o", "crtn.o"].map(|name| self.lib(name))));
+        let _ = fs::remove_file(object);
+    }
+
+    fn command(&self, program: &Path) -> Vec<OsString> {
+        vec![
+            self.bin("qemu-x86_64").into(),
+            self.lib("ld-linux-x86-64.so.2").into(),
+            "--library-path".into(),
+            self.0.join("lib").into(),
+            program.into(),
+        ]
+    }
+}
+
+/// Runs a tool to its end; what it printed is shown only if it fails.
+fn run(command: &mut Command) {
+    let output = command
+        .output()
+        .unwrap_or_else(|error| panic!("{command:?} doesn't start: {error}"));
+    assert!(
+        output.status.success(),
+        "{command:?} failed:\n{}{}",
+        String::from_utf8_lossy(&output.stdout),
+        String::from_utf8_lossy(&output.stderr)
+    );
+}

@@ -1,0 +1,138 @@
+//! Runs groups of scripts through the comparison, counts them, and makes a script that differs as
+//! small as it can.
+
+use std::collections::BTreeMap;
+use std::fmt;
+use std::time::Instant;
+
+use crate::compare::{run, Call, Difference, Trial, Want};
+use crate::host::Host;
+
+/// How often a smaller script is tried: some that differ by their length alone can't get smaller.
+const TRIES: usize = 2_000;
+
+/// How a script becomes calls.
+pub type Make = fn(&[u8]) -> Trial;
+
+/// A host, and what has been compared with it.
+pub struct Comparison {
+    host: Host,
+    pub groups: Vec<Group>,
+}
+
+/// How much of a group has been compared.
+#[derive(Debug, Clone)]
+pub struct Group {
+    pub name: &'static str,
+    pub scripts: u64,
+    /// How many calls there were of each function and outcome, `?` where any answer would do.
+    pub calls: BTreeMap<String, u64>,
+    pub seconds: f64,
+}
+
+impl Group {
+    fn count(&mut self, trial: &Trial) {
+        self.scripts += 1;
+        for call in &trial.calls {
+            let name = match call {
+                Call::Lex(_, Want::Exact(lexing)) => format!("lex {}", lexing.outcome),
+                Call::Lex(_, Want::Open) => "lex ?".to_string(),
+                Call::Decode(_, decoding) => format!("decode {}", decoding.outcome),
+            };
+            *self.calls.entry(name).or_default() += 1;
+        }
+    }
+}
+
+impl fmt::Display for Group {
+    fn fmt(&self, f: &mut fmt::Formatter) -> fmt::Result {
+        let (name, scripts, seconds) = (self.name, self.scripts, self.seconds);
+        write!(
+            f,
+            "{name}: {scripts} scripts, {seconds:.1} s; calls by outcome:"
+        )?;
+        for (index, (call, count)) in self.calls.iter().enumerate() {
+            let comma = if index == 0 { "" } else { "," };
+            write!(f, "{comma} {call}: {count}")?;
+        }
+        Ok(())
+    }
+}
+
+impl Comparison {
+    pub fn start() -> Comparison {
+        Comparison {
+            host: Host::start(),
+            groups: vec![],
+        }
+    }
+
+    /// Compares each script; ends at the first difference, with the smallest script that still
+    /// differs.
+    pub fn group(
+        &mut self,
+        name: &'static str,
+        scripts: impl IntoIterator<Item = Vec<u8>>,
+        make: Make,
+    ) -> Result<(), Difference> {
+        let mut group = Group {
+            name,
+            scripts: 0,
+            calls: BTreeMap::new(),
+            seconds: 0.0,
+        };
+        let begin = Instant::now();
+        let mut scripts = scripts.into_iter().peekable();
+        while scripts.peek().is_some() {
+            // A batch at a time, so that waiting for the pipe isn't the cost.
+            let (mut batch, mut bytes) = (vec![], 0);
+            while batch.len() < 4096 && bytes < 1 << 18 {
+                let Some(script) = scripts.next() else { break };
+                let trial = make(&script);
+                bytes += script.len() + 64 * trial.calls.len();
+                batch.push(trial);
+            }
+            if let Some((index, difference)) = run(&mut self.host, &batch) {
+                let mut difference = self.smallest(&batch[index].source, difference, make);
+                difference.text = format!("group: {name}\n{}", difference.text);
+                return Err(difference);
+            }
+            batch.iter().for_each(|trial| group.count(trial));
+        }
+        group.seconds = begin.elapsed().as_secs_f64();
+        self.groups.push(group);
+        Ok(())
+    }
+
+    /// Takes pieces out of a script as long as it differs, from halves down to single letters.
+    fn smallest(&mut self, script: &[u8], mut difference: Difference, make: Make) -> Difference {
+        let mut units = units(script);
+        let mut size = units.len().div_ceil(2);
+        let mut tries = 0;
+        while size > 0 && tries < TRIES {
+            let (mut at, mut smaller) = (0, false);
+            while at < units.len() && tries < TRIES {
+                tries += 1;
+                let end = units.len().min(at + size);
+                let less = [&units[..at], &units[end..]].concat();
+                match run(&mut self.host, &[make(&less.concat())]) {
+                    Some((_, found)) => {
+                        (units, difference, smaller) = (less, found, true);
+                    }
+                    None => at = end,
+                }
+            }
+            // Single letters are tried again as long as one can go.
+            size = if size == 1 && smaller { 1 } else { size / 2 };
+        }
+        difference
+    }
+}
+
+/// A script's letters, or its bytes if it is no Rust string.
+fn units(script: &[u8]) -> Vec<Vec<u8>> {
+    match std::str::from_utf8(script) {
+        Ok(text) => text.chars().map(|c| c.to_string().into_bytes()).collect(),
+        Err(_) => script.iter().map(|&byte| vec![byte]).collect(),
+    }
+}

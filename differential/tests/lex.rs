@@ -1,0 +1,41 @@
+//! A sample of the comparison, for the gate.
+
+use differential::compare::Difference;
+use differential::host::Host;
+use differential::run::Comparison;
+use differential::show::show;
+use differential::{edges, scripts_of_all_kinds, Sizes};
+
+const SEED: u64 = 1;
+
+type Part = fn(&mut Comparison, &Sizes, u64) -> Result<(), Difference>;
+
+fn compare(part: Part) {
+    if let Err(difference) = part(&mut Comparison::start(), &Sizes::sample(), SEED) {
+        panic!("the library and the original differ\n{difference}");
+    }
+}
+
+#[test]
+fn scripts() {
+    compare(scripts_of_all_kinds);
+}
+
+#[test]
+fn refusals() {
+    compare(edges);
+}
+
+#[test]
+fn one_script_shown() {
+    let text = show(&mut Host::start(), b"a = \"\\t\" !").expect("an answer");
+    let expected = r#"outcome 0, 5 tokens, 1 errors
+token 25 "a", line 1
+token 19 "=", line 1
+token 26 "\"\\t\"", line 1, text "\t"
+token 1 "", line 1
+token 0 "", line 1
+error 1, line 1, pos 9: '!' cannot be used here
+"#;
+    assert_eq!(text, expected);
+}
