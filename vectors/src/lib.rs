@@ -3,7 +3,9 @@
 //! A vector is a line of the program's standard input, its answer a line of the standard output.
 //! The answers come from a judge in Rust that shares nothing with the Rattle code: the original
 //! where it has such a thing, Rust's own library, or a plain rendering of document 01.
+//! `definition` makes theorems instead: scripts with the original's answers, for the prover.
 
+pub mod definition;
 pub mod dice;
 pub mod leaves;
 pub mod lexing;

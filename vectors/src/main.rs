@@ -1,12 +1,45 @@
 //! `cargo run -p vectors` writes the vectors of the program `replay` and their answers, and tells
-//! how many there are with each letter.
+//! how many there are with each letter. `cargo run -p vectors -- definition` writes the theorems
+//! that compare the definition of the reading with the original; with `slow`, or with a seed and a
+//! count, it prints another such file: of scripts that take long to try, or of random ones.
 
-fn main() {
+use std::process::ExitCode;
+
+fn main() -> ExitCode {
+    let words: Vec<String> = std::env::args().skip(1).collect();
+    match words.iter().map(String::as_str).collect::<Vec<_>>()[..] {
+        [] => write_vectors(),
+        ["definition"] => write_theorems(),
+        ["definition", "slow"] => print!("{}", vectors::definition::slow().text()),
+        ["definition", seed, count] => {
+            let (Ok(seed), Ok(count)) = (seed.parse(), count.parse()) else {
+                return usage();
+            };
+            print!("{}", vectors::definition::random(seed, count).text());
+        }
+        _ => return usage(),
+    }
+    ExitCode::SUCCESS
+}
+
+fn usage() -> ExitCode {
+    eprintln!("usage: vectors [definition [slow | SEED COUNT]]");
+    ExitCode::FAILURE
+}
+
+fn write_vectors() {
     let sheet = vectors::sheet();
     sheet
         .write(vectors::PROGRAM)
         .expect("the files are written");
     for (letter, count) in sheet.counts() {
         println!("{letter} {count}");
+    }
+}
+
+fn write_theorems() {
+    for file in vectors::definition::files() {
+        file.write().expect("the file is written");
+        println!("{} {}", file.name, file.len());
     }
 }

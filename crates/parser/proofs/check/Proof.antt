@@ -1,0 +1,39 @@
+-- `parser::check` meets its contract. Assumes nothing.
+use native.Mathlib.Omega.{arith}
+use Rattle.parser.proofs.Look.{check-line, check-no-line, check-found, check-none}
+use borrow.Author.Needs.{needs}
+use Rattle.parser.proofs.check.Statement.{statement}
+use Rattle.parser.proofs.check.Tie as tie
+
+kind-at-requires : tie.Need-kind-at-requires
+kind-at-requires c κs = search needs
+
+skip-requires : tie.Need-skip-requires
+skip-requires c κs = search needs
+
+kind-at-requires-2 : tie.Need-kind-at-requires-2
+kind-at-requires-2 c κs = search needs
+
+returns : tie.Need-returns
+returns c = check-line _ _ _ (omega arith) (cc)
+
+returns-2 : tie.Need-returns-2
+returns-2 c = check-no-line _ _ _ (omega arith) (λ e. c .if2 .left (cc))
+
+returns-3 : tie.Need-returns-3
+returns-3 c = check-found _ _ _ _ (cc) (omega arith) (cc)
+
+returns-4 : tie.Need-returns-4
+returns-4 c = check-none _ _ _ (omega arith) (λ e. c .if3 .left (cc))
+
+pub check-spec : {M : Type 1} → statement M
+check-spec =
+    tie.close
+    (tie.spec
+    kind-at-requires
+    skip-requires
+    kind-at-requires-2
+    returns
+    returns-2
+    returns-3
+    returns-4)

@@ -1,0 +1,288 @@
+// The parser of parser.rs: tokens to nodes. This file has the state, what readers answer, and the leaves.
+ghost use mathlib.Core.Path.{_≡_};
+ghost use mathlib.Core.List.{List};
+ghost use mathlib.Core.Bool.{not};
+ghost use Prim.Native.Nat.{ℕ, _-_};
+ghost use lib.Dec.{eqb};
+ghost use Rattle.parser.specs.Tokens.{kindAt, lineAt, after, skipLines, checkAt, matchesAt};
+ghost use Rattle.parser.specs.Tables.{Read, read, moved, looped, pushNode, pushError, plain, consumeAt, requireAt};
+ghost use Rattle.parser.specs.Programs.{raised};
+use records::InterpreterError;
+use records::Node;
+use token::Token;
+
+// Where the reading is: the token at the cursor, how many errors and nodes stand in their tables, and the open loops of the innermost function.
+pub struct Parser {
+    pub current: u32,
+    pub errors: u32,
+    pub nodes: u32,
+    pub loops: u32,
+}
+
+// What may stand left of `=`: a name, or a property of an object; Empty is told apart since a statement asks for it.
+pub enum Form {
+    Other,
+    Empty,
+    Name(u32),
+    Property(u32, u32),
+}
+
+// What a reader found: a node, what it may be left of `=`, and the outermost access node through which.
+pub struct Found {
+    pub node: u32,
+    pub form: Form,
+    pub access: u32,
+}
+
+// A reader gives what it found, or stops the reading with an outcome.
+pub enum Got {
+    Node(Found),
+    Stop(u32),
+}
+
+// A reader's answer, with the state beside it.
+pub struct Out {
+    pub p: Parser,
+    pub got: Got,
+}
+
+// Whether a token of a kind is next, and where.
+pub enum Seen {
+    At(u32),
+    Nothing,
+}
+
+// ---- looking at tokens. Past the table's end every kind is EOF's.
+
+fn kind_at(tokens: &[u32], i: u32) -> u32
+    ensures { λ r. ⌜ r ≡ kindAt (now (tokens .entry)) i ⌝ }
+{
+    records::token_kind(tokens, i)
+}
+
+fn line_at(tokens: &[u32], i: u32) -> u32
+    ensures { λ r. ⌜ r ≡ lineAt (now (tokens .entry)) i ⌝ }
+{
+    records::token_line(tokens, i)
+}
+
+// The token behind token i; there is none behind EOF.
+fn next(tokens: &[u32], i: u32) -> u32
+    ensures { λ r. ⌜ r ≡ after (now (tokens .entry)) i ⌝ }
+{
+    if kind_at(tokens, i) == Token::EOF {
+        return i;
+    }
+    i + 1
+}
+
+// The first token at or behind start that is no Newline.
+fn skip(tokens: &[u32], start: u32) -> u32
+    ensures { λ r. ⌜ r ≡ skipLines (now (tokens .entry)) start ⌝ }
+{
+    let mut i = start;
+    while kind_at(tokens, i) == Token::NEWLINE {
+        i += 1;
+    }
+    i
+}
+
+// `check`: for any kind but Newline it passes newlines. Where it finds the token the cursor stays on it; else the caller keeps its own.
+fn check(tokens: &[u32], at: u32, kind: u32) -> Seen
+    ensures { λ r. ⌜ r ≡ checkAt (now (tokens .entry)) at kind ⌝ }
+{
+    if kind == Token::NEWLINE {
+        if kind_at(tokens, at) == Token::NEWLINE {
+            Seen::At(at)
+        } else {
+            Seen::Nothing
+        }
+    } else {
+        let i = skip(tokens, at);
+        if kind_at(tokens, i) == kind {
+            Seen::At(i)
+        } else {
+            Seen::Nothing
+        }
+    }
+}
+
+// `matches`: the cursor behind the token found. `matches_many` is one after the other.
+fn matches(tokens: &[u32], at: u32, kind: u32) -> Seen
+    ensures { λ r. ⌜ r ≡ matchesAt (now (tokens .entry)) at kind ⌝ }
+{
+    match check(tokens, at, kind) {
+        Seen::At(i) => Seen::At(next(tokens, i)),
+        Seen::Nothing => Seen::Nothing,
+    }
+}
+
+// `is_at_end`: it passes no newlines.
+fn is_at_end(tokens: &[u32], p: Parser) -> bool
+    ensures { λ r. ⌜ r ≡ eqb (kindAt (now (tokens .entry)) (p .current)) 0 ⌝ }
+{
+    let at = p.current;
+    kind_at(tokens, at) == Token::EOF
+}
+
+// ---- the state by value
+
+impl Parser {
+    // The reading goes on at token i.
+    fn at_token(self, i: u32) -> Self
+        ensures { λ r. ⌜ r ≡ moved self i ⌝ }
+    {
+        Parser {
+            current: i,
+            errors: self.errors,
+            nodes: self.nodes,
+            loops: self.loops,
+        }
+    }
+
+    // The reading goes on with so many open loops.
+    fn with_loops(self, n: u32) -> Self
+        ensures { λ r. ⌜ r ≡ looped self n ⌝ }
+    {
+        Parser {
+            current: self.current,
+            errors: self.errors,
+            nodes: self.nodes,
+            loops: n,
+        }
+    }
+
+    // `previous`: the reference of the token before the cursor is the cursor itself.
+    fn previous(self) -> u32
+        ensures { λ r. ⌜ r ≡ self .current ⌝ }
+    {
+        self.current
+    }
+
+    fn enter_loop(self) -> Self
+        ensures { λ r. ⌜ r ≡ looped self (raised (self .loops)) ⌝ }
+    {
+        let n = self.loops;
+        if n < 4294967295 {
+            return self.with_loops(n + 1);
+        }
+        self.with_loops(n)
+    }
+
+    fn leave_loop(self) -> Self
+        ensures { λ r. ⌜ r ≡ looped self (self .loops - 1) ⌝ }
+    {
+        let n = self.loops;
+        if n == 0 {
+            return self.with_loops(0);
+        }
+        self.with_loops(n - 1)
+    }
+
+    fn inside_loop(self) -> bool
+        ensures { λ r. ⌜ r ≡ not (eqb (self .loops) 0) ⌝ }
+    {
+        self.loops != 0
+    }
+}
+
+// ---- answers
+
+// A node, or a token's reference, that is nothing left of `=`.
+fn gives(p: Parser, n: u32) -> Out
+    ensures { λ r. ⌜ r ≡ record { p = p; got = Got.Node (plain n) } ⌝ }
+{
+    Out {
+        p,
+        got: Got::Node(Found {
+            node: n,
+            form: Form::Other,
+            access: 0,
+        }),
+    }
+}
+
+fn stopped(p: Parser, outcome: u32) -> Out
+    ensures { λ r. ⌜ r ≡ record { p = p; got = Got.Stop outcome } ⌝ }
+{
+    Out {
+        p,
+        got: Got::Stop(outcome),
+    }
+}
+
+// ---- writing
+
+// One more node: its reference; 7 where it finds no room.
+fn make(nodes: &mut [u32], p: Parser, d: Node) -> Out
+    ensures { λ r. ⌜ ((E : List ℕ) → read (r .p) (r .got) E (now (nodes .exit)) ≡ pushNode d p E (now (nodes .entry))) ⌝ }
+{
+    let n = p.nodes;
+    if records::push_node(nodes, n, d) {
+        return gives(
+            Parser {
+                current: p.current,
+                errors: p.errors,
+                nodes: n + 1,
+                loops: p.loops,
+            },
+            n + 1,
+        );
+    }
+    stopped(p, 7)
+}
+
+// The one function that makes a parser error: message, and the token whose line it reports; 6 where it finds no room.
+fn set_error(tokens: &[u32], errors: &mut [u32], p: Parser, message: u32, token: u32) -> Out
+    ensures { λ r. ⌜ ((N : List ℕ) → read (r .p) (r .got) (now (errors .exit)) N ≡ pushError (now (tokens .entry)) message token p (now (errors .entry)) N) ⌝ }
+{
+    let n = p.errors;
+    let line = line_at(tokens, token);
+    let e = InterpreterError {
+        message,
+        line,
+        pos: 0,
+    };
+    if records::push_error(errors, n, e) {
+        return gives(
+            Parser {
+                current: p.current,
+                errors: n + 1,
+                nodes: p.nodes,
+                loops: p.loops,
+            },
+            0,
+        );
+    }
+    stopped(p, 6)
+}
+
+// `consume`: the token's reference; or its absence is an error, and 0.
+fn consume(tokens: &[u32], errors: &mut [u32], p: Parser, kind: u32, message: u32) -> Out
+    ensures { λ r. ⌜ ((N : List ℕ) → read (r .p) (r .got) (now (errors .exit)) N ≡ consumeAt (now (tokens .entry)) kind message p (now (errors .entry)) N) ⌝ }
+{
+    let at = p.current;
+    match matches(tokens, at, kind) {
+        Seen::At(i) => gives(p.at_token(i), i),
+        Seen::Nothing => set_error(tokens, errors, p, message, at),
+    }
+}
+
+// A `consume` whose result is unwrapped: its failure stops the reading.
+fn require(tokens: &[u32], errors: &mut [u32], p: Parser, kind: u32, message: u32) -> Out
+    ensures { λ r. ⌜ ((N : List ℕ) → read (r .p) (r .got) (now (errors .exit)) N ≡ requireAt (now (tokens .entry)) kind message p (now (errors .entry)) N) ⌝ }
+{
+    let at = p.current;
+    match matches(tokens, at, kind) {
+        Seen::At(i) => gives(p.at_token(i), i),
+        Seen::Nothing => {
+            let g = set_error(tokens, errors, p, message, at);
+            let k = g.got;
+            let Got::Node(_) = k else {
+                return g;
+            };
+            let q = g.p;
+            stopped(q, 1)
+        }
+    }
+}

@@ -1,0 +1,34 @@
+//! The stored theorems about the definition are those that the generator makes from the
+//! original's answers, and each message of the original stands in one of them.
+
+use std::collections::BTreeSet;
+use std::fs;
+use vectors::definition::files;
+use vectors::sheet::path;
+
+#[test]
+fn stored_theorems_are_made_by_the_generator() {
+    for file in files() {
+        let name = format!("proofs/{}.antt", file.name);
+        let stored = fs::read_to_string(path("reader", &name)).expect("the file is there");
+        assert!(
+            stored == file.text(),
+            "{name} differs: run `cargo run -p vectors -- definition`"
+        );
+    }
+}
+
+/// All but 10 and 27, whose scripts are too long to be tried each time.
+#[test]
+fn every_message_and_every_kind_of_node_occurs() {
+    let (mut messages, mut kinds) = (BTreeSet::new(), BTreeSet::new());
+    for case in files().iter().flat_map(|file| file.cases()) {
+        let errors = case.words[0][2] as usize;
+        messages.extend(case.words[1..1 + errors].iter().map(|error| error[0]));
+        kinds.extend(case.words[1 + errors..].iter().map(|node| node[0]));
+    }
+    assert!(messages
+        .into_iter()
+        .eq((1..=29).filter(|m| ![10, 27].contains(m))));
+    assert!(kinds.into_iter().eq(1..=32));
+}
