@@ -14,11 +14,11 @@ use Rattle.parser.specs.declared.Found.{Found}
 use Rattle.parser.specs.Tokens.{count, kindAt}
 use Rattle.parser.specs.Tables.{plain}
 use Rattle.parser.specs.Nodes.{literalRow, logicalRow, binaryRow, nameRow, classRow, ifRow, classicForRow, elifRow, breakRow, continueRow}
-use Rattle.parser.specs.Programs.{Which, Declaration, Assignment, Operand, Prog, consume, leaveLoop, node, down}
+use Rattle.parser.specs.Programs.{Which, Declaration, Assignment, Operand, Prog, _>>=_, _>>_, consume, leaveLoop, node, down}
 use Rattle.parser.specs.Reading.{firstOf, lastOf, when, formThrough, through, property, rowIf, Level, levels, fuel, blockFrom, block, expressionStmt, parametersFrom, parameters, functionBody, fnStmt, fnExpr, methodsFrom, class, letStmt, namesFrom, enhancedFor, classicFor, forLoop, tryCatch, elifsFrom, elseFrom, ifStmt, ret, brk, cont, whileStmt, statement, declaration, argumentsFrom, arguments, list, dictElementsFrom, dictionary, closed, access, superExpr, primary, finishCall, callFrom, call, unary, lookMany, binaryFrom, binary, assigned, assignment, body}
 use Rattle.parser.specs.Trees.{isOf, Expression, Statement, Variable, Index, Binding, Function, Branch, Parameter, One, Maybe, Many, binding, tightOf, Child, Fits, Formed, Forest}
 use Rattle.parser.proofs.TreeRows.{Later, later-none, later-then, Made, Linked, forest-join, forest-none, forest-made}
-use Rattle.parser.proofs.TreeTyping.{FormFits, Held, sortOf, tightFrom, Wp, link-kept, behind-less}
+use Rattle.parser.proofs.TreeTyping.{FormFits, Held, sortOf, tightFrom, Wp, call as inner, link-kept, behind-less}
 use Rattle.parser.proofs.TreeLists.{form, fits-later, fits-less, carry, tight-later, held-node, finish, held-list, held-as, Listing, Listed, list-done, list-below, list-later, list-link, child-linked, list-next, member-link, member-next, list-tail, list-other}
 
 last-le : (f : Form) (t c : ℕ) → t ≤ c → lastOf f t ≤ c

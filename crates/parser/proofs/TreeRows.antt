@@ -7,7 +7,7 @@ use Prim.Native.Nat.{ℕ, _+_, _-_, _≤_, _<_}
 use native.Mathlib.Omega.{arith}
 use lib.Dec.{eqb}
 use borrow.Author.Tests.{eqb-true}
-use Rattle.records.specs.Table.{put, field}
+use Rattle.records.specs.Table.{put, field, linked}
 use Rattle.records.specs.declared.Node as rows
 use Rattle.records.proofs.Room.{lt-or-le}
 use Rattle.parser.specs.Trees.{Sort, Expression, isOperation, tightness, tightOf, Binds, Column, Unused, One, Maybe, Many, shapeOf, nextOf, rowAt, Chain, single, more, Child, Members, Fits, Formed, Forest}

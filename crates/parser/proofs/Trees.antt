@@ -23,7 +23,7 @@ use Rattle.parser.specs.Whole.{Parsed, topLevel, orEnds, ifEnd, statemen
 use Rattle.records.specs.declared.Node as rows
 use Rattle.parser.specs.Trees.{Sort, isOf, Column, Unused, One, Maybe, shapeOf, columnOf, childOf, permits, allows, kindOf, nextOf, rowAt, Reaches, here, there, Chain, single, more, Child, Fits, Formed, Statement, Many, Forest, Tree}
 use Rattle.parser.proofs.TreeRows.{chain-up, Agree, Later, forest-none, forest-join}
-use Rattle.parser.proofs.TreeTyping.{Held, sortOf, tightFrom, State, Done, kept-all, done-then, done-down, done-link, Reads, sound, lower-sound}
+use Rattle.parser.proofs.TreeTyping.{Held, sortOf, tightFrom, State, Kept, Done, kept-all, done-then, done-down, done-link, Reads, sound, lower-sound}
 use Rattle.parser.proofs.TreeLists.{Listing, fits-later, list-done, member-link, member-next}
 use Rattle.parser.proofs.TreeReaders.{body-ok}
 

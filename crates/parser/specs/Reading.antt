@@ -5,6 +5,7 @@ use mathlib.Core.List.{List, [], _∷_}
 use lib.Dec.{leb, ltb, eqb}
 use Rattle.token.specs.Kind.{Newline, LeftParen, RightParen, LeftBrace, RightBrace, RightCurlyBrace, LeftCurlyBrace, Comma, Dot, Minus, Plus, Slash, Mod, Star, Power, Colon, Semicolon, BangEqual, Equal, EqualEqual, Greater, GreaterEqual, Less, LessEqual, Identifier, String, Number, And, Class, Else, False, Fn, For, If, Elif, Nil, Or, Return, Break, Continue, Super, This, True, Let, While, Not, In, Try, Catch}
 use Rattle.records.specs.declared.Node as rows
+use Rattle.parser.specs.declared.Parser.{Parser}
 use Rattle.parser.specs.declared.Form.{Form}
 use Rattle.parser.specs.declared.Form.the-variants.{Other, Empty, Name, Property}
 use Rattle.parser.specs.declared.Found.{Found}
@@ -12,7 +13,7 @@ use Rattle.parser.specs.declared.Got.the-variants.{Stop}
 use Rattle.parser.specs.Tokens.{count}
 use Rattle.parser.specs.Tables.{read, plain}
 use Rattle.parser.specs.Nodes.{fnExprRow, varRow, listRow, dictionaryRow, assignRow, accessRow, binaryRow, callRow, getRow, setRow, superRow, groupingRow, literalRow, logicalRow, thisRow, unaryRow, emptyRow, fnRow, letRow, blockRow, classRow, classicForRow, enhancedForRow, whileRow, ifRow, continueRow, returnRow, breakRow, tryCatchRow, exprRow, elifRow, nameRow}
-use Rattle.parser.specs.Programs.{Reader, Which, Declaration, Assignment, Operand, Prog, give, stop, look, check, atEnd, previous, node, link, fail, failAt, consume, require, enterLoop, leaveLoop, insideLoop, inFunction, down, run}
+use Rattle.parser.specs.Programs.{Reader, Which, Declaration, Assignment, Operand, Prog, give, stop, _>>=_, _>>_, look, check, atEnd, previous, node, link, fail, failAt, consume, require, enterLoop, leaveLoop, insideLoop, inFunction, down, run}
 
 -- ---- what readers build
 -- a list's first member: the one it has, or the one that is added

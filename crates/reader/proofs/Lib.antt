@@ -1,6 +1,8 @@
+pub mod Arguments
 pub mod Cases
 pub mod Limits
 pub mod Oracle
+pub mod Parameters
 pub mod Sizes
 pub mod Stars
 pub mod Worked

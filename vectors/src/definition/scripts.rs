@@ -48,22 +48,28 @@ fn levels(ways: &[(&str, usize, &str, &str)]) -> Vec<Script> {
     ways.iter().flat_map(script).collect()
 }
 
-/// Scripts that take long to try: limits of parameters and arguments, and further levels.
+/// A number of names, with commas between them.
+fn many(count: usize) -> String {
+    vec!["a"; count].join(",")
+}
+
+/// A list of names of a length, and one that is longer by one.
+fn counts(open: &str, most: usize, close: &str) -> Vec<Script> {
+    let text = |count| format!("{open}{}{close}", many(count));
+    plain(&[&text(most), &text(most + 1)])
+}
+
+/// Scripts that take long to try: other ways to many parameters and arguments, and further levels.
 pub fn slow() -> File {
-    let many = |n: usize| vec!["a"; n].join(",");
     let texts = [
-        format!("fn f({}) a", many(256)),
-        format!("fn f({}) a", many(257)),
         format!("let f = fn({},) a", many(256)),
-        format!("f({})", many(255)),
         format!("f({},)", many(255)),
-        format!("f({})", many(256)),
     ];
-    let texts: Vec<&str> = texts.iter().map(String::as_str).collect();
+    let counts = plain(&texts.each_ref().map(String::as_str));
     File {
         name: "Slow",
         comment: "Limits of parameters and arguments, with what the original answers, and of levels, with what document 01 says.",
-        scripts: plain(&texts).into_iter().chain(levels(MORE_WAYS)).collect(),
+        scripts: counts.into_iter().chain(levels(MORE_WAYS)).collect(),
     }
 }
 
@@ -89,6 +95,16 @@ pub fn files() -> Vec<File> {
             name: "Limits",
             comment: "The most levels that are read, with what the original answers; and one more, where document 01 says outcome 8.",
             scripts: levels(WAYS),
+        },
+        File {
+            name: "Parameters",
+            comment: "The most parameters that are read, and one more, with what the original answers.",
+            scripts: counts("fn f(", 256, ") a"),
+        },
+        File {
+            name: "Arguments",
+            comment: "The most arguments that are read, and one more, with what the original answers.",
+            scripts: counts("f(", 255, ")"),
         },
     ]
 }
