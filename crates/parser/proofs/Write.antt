@@ -1,8 +1,9 @@
 -- Laws of writing nodes and errors, in the form that the code's facts have. Assumes nothing.
-use mathlib.Core.Path.{_≡_, sym, ap, _∙_}
+use mathlib.Core.Path.{_≡_, refl, sym, ap, _∙_}
 use mathlib.Core.Bool.{Bool, true, false}
 use mathlib.Core.List.{List}
-use Prim.Native.Nat.{ℕ, _+_, _/_, _≤_, _<_}
+use Prim.Native.Nat.{ℕ, zero, suc, _+_, _/_, _≤_, _<_}
+use native.Mathlib.Omega.{arith}
 use native.Mathlib.Nat.{min-le-right, le-trans}
 use borrow.Author.Tests.{ltb-true, ltb-false, lt-ltb, le-ltb}
 use lib.Dec.{ltb}
@@ -21,6 +22,7 @@ use Rattle.parser.specs.declared.Seen.the-variants.{At, Nothing}
 use Rattle.parser.specs.Tokens.{lineAt, matchesAt}
 use Rattle.parser.specs.Tables.{Read, read, moved, plain, pushNode, pushError, andThen, consumeAt, requireAt}
 use Rattle.parser.specs.Programs.{raised}
+use Rattle.parser.specs.Reading.{firstOf}
 
 -- a record that had room is one that a word can count
 pub counted : (w : ℕ) (t : List ℕ) (n : ℕ) (b : Bool) → b ≡ ltb n (room w t) → b ≡ true → n < 4294967295
@@ -111,3 +113,14 @@ module _ (T : List ℕ) (kind message : ℕ) (p : Parser) (s : Seen) (h : s ≡ 
     require-stops x o k q =
         ap (λ (y : Out). read (y .p) (y .got) E′ N) q
         ∙ sym (stops ∙ ap (λ (y : Got). andThen (read (g .p) y E′ N) λ x q E N. read q (Stop 1) E N) k)
+
+-- a list's first member
+pub first-none : (f n : ℕ) → f ≡ 0 → n ≡ firstOf f n
+unfolding firstOf
+first-none zero n e = refl
+first-none (suc f) n e = absurd (omega arith)
+
+pub first-some : (f n : ℕ) → (f ≡ 0 → ⊥) → f ≡ firstOf f n
+unfolding firstOf
+first-some zero n h = absurd (h refl)
+first-some (suc f) n h = refl

@@ -1,7 +1,7 @@
 -- Looking at tokens: kinds, lines, and `check`, which passes newlines. T is the token table.
 use Prim.Native.Nat.{ℕ, zero, suc, _+_, _-_}
 use mathlib.Core.Bool.{Bool, true, false}
-use mathlib.Core.List.{List}
+use mathlib.Core.List.{List, [], _∷_}
 use lib.Dec.{eqb}
 use Rattle.records.specs.Table.{room, field, tokenWidth}
 use Rattle.parser.specs.declared.Seen.{Seen}
@@ -47,3 +47,13 @@ checkAt T i kind =
 -- `matches`: the token that `check` finds is passed
 unfoldable pub matchesAt : List ℕ → ℕ → ℕ → Seen
 matchesAt T i kind = elim (checkAt T i kind) [ At j ↦ At (after T j) | Nothing ↦ Nothing ]
+
+-- what is seen, or else the second
+abbrev pub orNext : Seen → Seen → Seen
+orNext (At j) next = At j
+orNext Nothing next = next
+
+-- `matches_many`: the first of the kinds, in their order, that matches
+unfoldable pub matchesMany : List ℕ → ℕ → List ℕ → Seen
+matchesMany T i [] = Nothing
+matchesMany T i (k ∷ ks) = orNext (matchesAt T i k) (matchesMany T i ks)

@@ -4,9 +4,10 @@ ghost use mathlib.Core.List.{List};
 ghost use mathlib.Core.Bool.{not};
 ghost use Prim.Native.Nat.{ℕ, _-_};
 ghost use lib.Dec.{eqb};
-ghost use Rattle.parser.specs.Tokens.{kindAt, lineAt, after, skipLines, checkAt, matchesAt};
+ghost use Rattle.parser.specs.Tokens.{kindAt, lineAt, after, skipLines, checkAt, matchesAt, matchesMany};
 ghost use Rattle.parser.specs.Tables.{Read, read, moved, looped, pushNode, pushError, plain, consumeAt, requireAt};
 ghost use Rattle.parser.specs.Programs.{raised};
+ghost use Rattle.parser.specs.Reading.{firstOf};
 use records::InterpreterError;
 use records::Node;
 use token::Token;
@@ -107,7 +108,7 @@ fn check(tokens: &[u32], at: u32, kind: u32) -> Seen
     }
 }
 
-// `matches`: the cursor behind the token found. `matches_many` is one after the other.
+// `matches`: the cursor behind the token found.
 fn matches(tokens: &[u32], at: u32, kind: u32) -> Seen
     ensures { λ r. ⌜ r ≡ matchesAt (now (tokens .entry)) at kind ⌝ }
 {
@@ -115,6 +116,20 @@ fn matches(tokens: &[u32], at: u32, kind: u32) -> Seen
         Seen::At(i) => Seen::At(next(tokens, i)),
         Seen::Nothing => Seen::Nothing,
     }
+}
+
+// `matches_many`: the kinds are tried in their order.
+fn matches_many(tokens: &[u32], at: u32, kinds: &[u32]) -> Seen
+    ensures { λ r. ⌜ r ≡ matchesMany (now (tokens .entry)) at (now (kinds .entry)) ⌝ }
+{
+    let mut k = 0;
+    while k < kinds.len() {
+        if let Seen::At(i) = matches(tokens, at, kinds[k]) {
+            return Seen::At(i);
+        }
+        k += 1;
+    }
+    Seen::Nothing
 }
 
 // `is_at_end`: it passes no newlines.
@@ -212,6 +227,13 @@ fn stopped(p: Parser, outcome: u32) -> Out
 }
 
 // ---- writing
+
+// A list's first member: the one it has, or the one that is added. `records::link` puts a node behind the last.
+fn first_of(first: u32, n: u32) -> u32
+    ensures { λ r. ⌜ r ≡ firstOf first n ⌝ }
+{
+    if first == 0 { n } else { first }
+}
 
 // One more node: its reference; 7 where it finds no room.
 fn make(nodes: &mut [u32], p: Parser, d: Node) -> Out
