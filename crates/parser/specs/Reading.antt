@@ -358,39 +358,48 @@ module _ (T : List ℕ) where
     brace ← require RightCurlyBrace 21
     node (dictionaryRow (elements .node) (brace .node))
 
-  -- `access`, with the forms of `slice`
+  -- the end of `access`: its closing mark and its node
   unfoldable pub closed : Found → ℕ → ℕ → ℕ → ℕ → ℕ → ℕ → Prog
   closed object brace first firstColon second secondColon third = do
     consume RightBrace 24
     n ← node (accessRow (object .node) brace first firstColon second secondColon third)
     give (through object (n .node))
 
+  -- `slice`, behind the second colon: the third part
+  abbrev pub thirdPart : Found → ℕ → ℕ → ℕ → ℕ → ℕ → Prog
+  thirdPart object brace first firstColon second secondColon = do
+    third ← expression
+    closed object brace first firstColon second secondColon (third .node)
+
+  -- `slice`, behind a first colon that comes first
+  abbrev pub openSlice : Found → ℕ → ℕ → Prog
+  openSlice object brace c =
+      look Colon (λ d. thirdPart object brace 0 c 0 d) (do
+        second ← expression
+        look Colon (λ d. thirdPart object brace 0 c (second .node) d) (closed object brace 0 c (second .node) 0 0))
+
+  -- `slice`, behind the second colon, where the third part may be absent
+  abbrev pub lastPart : Found → ℕ → ℕ → ℕ → ℕ → ℕ → Prog
+  lastPart object brace first c second d =
+      check RightBrace (closed object brace first c second d 0) (
+      atEnd (closed object brace first c second d 0)
+      (thirdPart object brace first c second d))
+
+  -- `slice`, behind a first part and the first colon
+  abbrev pub slice : Found → ℕ → ℕ → ℕ → Prog
+  slice object brace first c =
+      look Colon (λ d. thirdPart object brace first c 0 d) (
+      check RightBrace (closed object brace first c 0 0 0) (
+      atEnd (closed object brace first c 0 0 0) (do
+        second ← expression
+        look Colon (λ d. lastPart object brace first c (second .node) d) (closed object brace first c (second .node) 0 0))))
+
+  -- `access`
   unfoldable pub access : Found → ℕ → Prog
   access object brace =
-      look Colon (λ c.
-      look Colon (λ d. do
-        third ← expression
-        closed object brace 0 c 0 d (third .node)) (do
-          second ← expression
-          look Colon (λ d. do
-            third ← expression
-            closed object brace 0 c (second .node) d (third .node))
-              (closed object brace 0 c (second .node) 0 0))) (do
-                first ← expression
-                look Colon (λ c.
-                    look Colon (λ d. do
-                      third ← expression
-                      closed object brace (first .node) c 0 d (third .node)) (
-                    check RightBrace (closed object brace (first .node) c 0 0 0) (
-                    atEnd (closed object brace (first .node) c 0 0 0) (do
-                      second ← expression
-                      look Colon (λ d.
-                          check RightBrace (closed object brace (first .node) c (second .node) d 0) (
-                          atEnd (closed object brace (first .node) c (second .node) d 0) (do
-                            third ← expression
-                            closed object brace (first .node) c (second .node) d (third .node))))
-                          (closed object brace (first .node) c (second .node) 0 0)))))
-                    (closed object brace (first .node) 0 0 0 0))
+      look Colon (λ c. openSlice object brace c) (do
+        first ← expression
+        look Colon (λ c. slice object brace (first .node) c) (closed object brace (first .node) 0 0 0 0))
 
   -- `super_expr`
   unfoldable pub superExpr : ℕ → Prog
