@@ -91,6 +91,7 @@ pickItem false a b = b
 abbrev pub nameOf : ℕ → List ℕ → Item
 nameOf b s = Name (keywordOf (b ∷ take (run isAlpha s) s)) (suc (run isAlpha s))
 
+-- rule 3, where a name begins the bytes
 abbrev pub nameAt : List ℕ → Item
 nameAt [] = Space
 nameAt (b ∷ s) = nameOf b s

@@ -80,9 +80,11 @@ onIn l t e = record { next = On l; tokens = t; errors = e }
 abbrev pub emitNext : Lexer → ℕ → ℕ → ℕ → List ℕ → Next
 emitNext l kind n m t = pickNext (ltb (l .tokens) (room tokenWidth t)) (On (tokenMore l kind n m)) (Stop 5)
 
+-- the token table with the token, as far as it has room
 abbrev pub emitTable : Lexer → ℕ → ℕ → ℕ → Words → List ℕ → List ℕ
 emitTable l kind n m w t = put tokenWidth t (l .tokens) (tokenWords (tokenOf l kind n m w))
 
+-- a token: how it goes on, and both tables
 abbrev pub emitIn : Lexer → ℕ → ℕ → ℕ → Words → List ℕ → List ℕ → Did
 emitIn l kind n m w t e = record { next = emitNext l kind n m t; tokens = emitTable l kind n m w t; errors = e }
 
@@ -90,6 +92,7 @@ emitIn l kind n m w t e = record { next = emitNext l kind n m t; tokens = emitTa
 abbrev pub errorNext : Lexer → ℕ → ℕ → List ℕ → Next
 errorNext l n m e = pickNext (ltb (l .errors) (room errorWidth e)) (On (errorMore l n m)) (Stop 6)
 
+-- the error table with the error, as far as it has room
 abbrev pub errorTable : Lexer → ℕ → ℕ → List ℕ → List ℕ
 errorTable l message m e = put errorWidth e (l .errors) (errorWords (errorOf l message m))
 
@@ -128,6 +131,7 @@ abbrev pub thenIn : Next → List ℕ → List ℕ → Lexer → (Lexer → List
 thenIn (On m) t e l k = k m t e
 thenIn (Stop o) t e l k = record { answer = ended o l; tokens = t; errors = e }
 
+-- the same behind a step
 abbrev pub andThenIn : Did → Lexer → (Lexer → List ℕ → List ℕ → Done) → Done
 andThenIn d l k = thenIn (d .next) (d .tokens) (d .errors) l k
 

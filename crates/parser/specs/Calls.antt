@@ -31,6 +31,7 @@ abbrev pub pickName : Bool → ℕ → ℕ → Name
 pickName true token around = lambda around
 pickName false token around = called token
 
+-- the name of a function whose name is that token, or of a lambda, with so many functions open around it
 abbrev pub nameOf : ℕ → ℕ → Name
 nameOf token around = pickName (eqb token 0) token around
 
@@ -56,6 +57,7 @@ pub data Named : Type 0 where
   named : Read → List Call → Named
   unequal : Named
 
+-- a reader that takes and gives the call stack too
 abbrev pub NamedReader : Type 0
 NamedReader = Parser → List Call → List ℕ → List ℕ → Named
 
@@ -65,10 +67,12 @@ thenNamed (named (read p (Node f) E N) cs) k = k f p cs E N
 thenNamed (named (read p (Stop o) E N) cs) k = named (read p (Stop o) E N) cs
 thenNamed unequal k = unequal
 
+-- by whether a token was found
 abbrev pub ifNamed : Seen → (ℕ → Named) → (Unit {0} → Named) → Named
 ifNamed (At i) found missing = found i
 ifNamed Nothing found missing = missing tt
 
+-- by a test
 abbrev pub eitherNamed : Bool → (Unit {0} → Named) → (Unit {0} → Named) → Named
 eitherNamed true a b = a tt
 eitherNamed false a b = b tt

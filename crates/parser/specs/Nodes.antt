@@ -2,13 +2,16 @@
 use Prim.Native.Nat.{ℕ}
 use Rattle.records.specs.declared.Node.{Node}
 
+-- a row by its columns; it is in no list yet
 abbrev pub row : ℕ → ℕ → ℕ → ℕ → ℕ → ℕ → ℕ → ℕ → Node
 row kind t1 t2 t3 c1 c2 c3 c4 = record { kind = kind; token1 = t1; token2 = t2; token3 = t3; child1 = c1; child2 = c2; child3 = c3; child4 = c4; next = 0 }
 
 -- ---- expr.rs
+-- kind 1, `FnExpr`: parameters and statements
 abbrev pub fnExprRow : ℕ → ℕ → Node
 fnExprRow params stmts = row 1 0 0 0 params stmts 0 0
 
+-- kind 2, `VarExpr`: its name
 abbrev pub varRow : ℕ → Node
 varRow name = row 2 name 0 0 0 0 0 0
 
@@ -20,6 +23,7 @@ listRow elements brace = row 3 brace 0 0 elements 0 0 0
 abbrev pub dictionaryRow : ℕ → ℕ → Node
 dictionaryRow elements brace = row 4 brace 0 0 elements 0 0 0
 
+-- kind 5, `AssignExpr`: a name, the value, and the access through which or 0
 abbrev pub assignRow : ℕ → ℕ → ℕ → Node
 assignRow name value access = row 5 name 0 0 value access 0 0
 
@@ -27,6 +31,7 @@ assignRow name value access = row 5 name 0 0 value access 0 0
 abbrev pub accessRow : ℕ → ℕ → ℕ → ℕ → ℕ → ℕ → ℕ → Node
 accessRow object brace first firstColon second secondColon third = row 6 brace firstColon secondColon object first second third
 
+-- kind 7, `BinaryExpr`: left operand, operator, right operand
 abbrev pub binaryRow : ℕ → ℕ → ℕ → Node
 binaryRow left operator right = row 7 operator 0 0 left right 0 0
 
@@ -34,6 +39,7 @@ binaryRow left operator right = row 7 operator 0 0 left right 0 0
 abbrev pub callRow : ℕ → ℕ → ℕ → Node
 callRow callee paren arguments = row 8 paren 0 0 callee arguments 0 0
 
+-- kind 9, `GetExpr`: an object and a name
 abbrev pub getRow : ℕ → ℕ → Node
 getRow object name = row 9 name 0 0 object 0 0 0
 
@@ -45,6 +51,7 @@ setRow object name value access = row 10 name 0 0 object value access 0
 abbrev pub superRow : ℕ → ℕ → Node
 superRow keyword method = row 11 keyword method 0 0 0 0 0
 
+-- kind 12, `GroupingExpr`: the expression within
 abbrev pub groupingRow : ℕ → Node
 groupingRow expression = row 12 0 0 0 expression 0 0 0
 
@@ -52,52 +59,68 @@ groupingRow expression = row 12 0 0 0 expression 0 0 0
 abbrev pub literalRow : ℕ → Node
 literalRow token = row 13 token 0 0 0 0 0 0
 
+-- kind 14, `LogicalExpr`: left operand, operator, right operand
 abbrev pub logicalRow : ℕ → ℕ → ℕ → Node
 logicalRow left operator right = row 14 operator 0 0 left right 0 0
 
+-- kind 15, `ThisExpr`: its keyword
 abbrev pub thisRow : ℕ → Node
 thisRow keyword = row 15 keyword 0 0 0 0 0 0
 
+-- kind 16, `UnaryExpr`: operator and operand
 abbrev pub unaryRow : ℕ → ℕ → Node
 unaryRow operator right = row 16 operator 0 0 right 0 0 0
 
+-- kind 17, `Empty`
 abbrev pub emptyRow : Node
 emptyRow = row 17 0 0 0 0 0 0 0
 
 -- ---- stmt.rs
+-- kind 18, `FnStmt`: name, parameters, statements
 abbrev pub fnRow : ℕ → ℕ → ℕ → Node
 fnRow name params stmts = row 18 name 0 0 params stmts 0 0
 
+-- kind 19, `LetStmt`: name, and its value or 0
 abbrev pub letRow : ℕ → ℕ → Node
 letRow name initializer = row 19 name 0 0 initializer 0 0 0
 
+-- kind 20, `BlockStmt`: its statements
 abbrev pub blockRow : ℕ → Node
 blockRow stmts = row 20 0 0 0 stmts 0 0 0
 
+-- kind 21, `ClassStmt`: name, methods, static methods, and the superclass or 0
 abbrev pub classRow : ℕ → ℕ → ℕ → ℕ → Node
 classRow name methods staticMethods superclass = row 21 name 0 0 methods staticMethods superclass 0
 
+-- kind 22, `ClassicForStmt`: keyword, initializer or 0, condition, increment, body
 abbrev pub classicForRow : ℕ → ℕ → ℕ → ℕ → ℕ → Node
 classicForRow keyword initializer condition increment stmt = row 22 keyword 0 0 initializer condition increment stmt
 
+-- kind 23, `EnhancedForStmt`: keyword, names, collection, body
 abbrev pub enhancedForRow : ℕ → ℕ → ℕ → ℕ → Node
 enhancedForRow keyword identifiers collection stmt = row 23 keyword 0 0 identifiers collection stmt 0
 
+-- kind 24, `WhileStmt`: keyword, condition, body
 abbrev pub whileRow : ℕ → ℕ → ℕ → Node
 whileRow keyword condition stmt = row 24 keyword 0 0 condition stmt 0 0
 
+-- kind 25, `IfStmt`: keyword, condition, statements, elif branches, else statements
 abbrev pub ifRow : ℕ → ℕ → ℕ → ℕ → ℕ → Node
 ifRow keyword condition thenBranch elifs elseBranch = row 25 keyword 0 0 condition thenBranch elifs elseBranch
 
+-- kind 26, `ContinueStmt`: its keyword
 abbrev pub continueRow : ℕ → Node
 continueRow keyword = row 26 keyword 0 0 0 0 0 0
 
+-- kind 27, `ReturnStmt`: keyword, and its value or 0
 abbrev pub returnRow : ℕ → ℕ → Node
 returnRow keyword value = row 27 keyword 0 0 value 0 0 0
 
+-- kind 28, `BreakStmt`: its keyword
 abbrev pub breakRow : ℕ → Node
 breakRow keyword = row 28 keyword 0 0 0 0 0 0
 
+-- kind 29, `TryCatchStmt`: the body tried, the name, the body of catch
 abbrev pub tryCatchRow : ℕ → ℕ → ℕ → Node
 tryCatchRow tryBody name catchBody = row 29 name 0 0 tryBody catchBody 0 0
 
@@ -106,8 +129,10 @@ abbrev pub exprRow : ℕ → ℕ → Node
 exprRow last expression = row 30 last 0 0 expression 0 0 0
 
 -- ---- an elif branch; a parameter or loop name
+-- kind 31, an elif branch: condition and statements
 abbrev pub elifRow : ℕ → ℕ → Node
 elifRow condition thenBranch = row 31 0 0 0 condition thenBranch 0 0
 
+-- kind 32, a parameter or loop name
 abbrev pub nameRow : ℕ → Node
 nameRow name = row 32 name 0 0 0 0 0 0

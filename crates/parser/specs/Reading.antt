@@ -48,6 +48,7 @@ formThrough Empty = Other
 formThrough (Name t) = Name t
 formThrough (Property t o) = Property t o
 
+-- the access n of that object, with what stands left of `=` through it
 abbrev pub through : Found → ℕ → Found
 through object n = record { node = n; form = formThrough (object .form); access = n }
 
@@ -97,6 +98,7 @@ abbrev pub operation : Level → ℕ → ℕ → ℕ → rows.Node
 operation level left operator right = rowIf (level .logical) (logicalRow left operator right) (binaryRow left operator right)
 
 module _ (T : List ℕ) where
+  -- the fuel of every loop: one more than the tokens, so that it is never used up
   abbrev pub fuel : ℕ
   fuel = suc (count T)
 
@@ -110,6 +112,7 @@ module _ (T : List ℕ) where
         link last (n .node)
         blockFrom f (firstOf first (n .node)) (n .node))
 
+  -- `block`
   unfoldable pub block : Prog
   block = blockFrom fuel 0 0
 
@@ -130,6 +133,7 @@ module _ (T : List ℕ) where
         link last (d .node)
         look Comma (λ c. parametersFrom message f (n + 1) (firstOf first (d .node)) (d .node)) (give (plain (firstOf first (d .node)))))
 
+  -- parameters up to the closing mark, as `fn_stmt` and `fn_expr` read them; none where the mark comes at once
   unfoldable pub parameters : ℕ → Prog
   parameters message = check RightParen nothing (parametersFrom message fuel 0 0 0)
 
@@ -172,6 +176,7 @@ module _ (T : List ℕ) where
           link last (n .node)
           methodsFrom f k (firstOf first (n .node)) (n .node) firstStatic lastStatic)))
 
+  -- `class`: its name, a superclass behind `<`, its methods
   unfoldable pub class : Prog
   class = do
     name ← consume Identifier 5
@@ -199,6 +204,7 @@ module _ (T : List ℕ) where
         namesFrom f (firstOf first (n .node)) (n .node))
       (give (plain first))
 
+  -- `enhanced_for`: names, `in`, a collection, a statement
   unfoldable pub enhancedFor : ℕ → Prog
   enhancedFor keyword = do
     ids ← namesFrom fuel 0 0
@@ -221,6 +227,7 @@ module _ (T : List ℕ) where
     leaveLoop
     node (classicForRow keyword (init .node) (cond .node) (inc .node) (stmt .node))
 
+  -- `for_loop`: an identifier makes it an enhanced for
   unfoldable pub forLoop : ℕ → Prog
   forLoop keyword = do
     enterLoop
@@ -257,6 +264,7 @@ module _ (T : List ℕ) where
         link last (n .node)
         elseFrom f (firstOf first (n .node)) (n .node))
 
+  -- `if_stmt`: a condition and a block, elif branches, else
   unfoldable pub ifStmt : ℕ → Prog
   ifStmt keyword = do
     cond ← expression
@@ -282,6 +290,7 @@ module _ (T : List ℕ) where
     insideLoop nothing (failAt 19 keyword)
     node (breakRow keyword)
 
+  -- `cont`
   unfoldable pub cont : ℕ → Prog
   cont keyword = do
     insideLoop nothing (failAt 19 keyword)
@@ -329,6 +338,7 @@ module _ (T : List ℕ) where
             (λ c. check mark (give (plain (firstOf first (e .node)))) (argumentsFrom mark f (n + 1) (firstOf first (e .node)) (e .node)))
             (give (plain (firstOf first (e .node)))))
 
+  -- `arguments`: none where the mark comes at once
   unfoldable pub arguments : ℕ → Prog
   arguments mark = check mark nothing (argumentsFrom mark fuel 0 0 0)
 
@@ -447,6 +457,7 @@ module _ (T : List ℕ) where
       look LeftBrace (λ i. do n ← access e i; callFrom f n)
       (give e)))
 
+  -- `call`: calls, dots and indexes behind a primary
   unfoldable pub call : Prog
   call = do
     e ← primary
@@ -475,6 +486,7 @@ module _ (T : List ℕ) where
         binaryFrom level operand f n)
       (give left)
 
+  -- the level's reader over the readers of the tighter levels: `or` is the whole list, `power` its last
   unfoldable pub binary : List Level → Prog
   binary [] = unary
   binary (level ∷ tighter) = do

@@ -32,6 +32,7 @@ skipFrom (suc n) T i = elim (eqb (kindAt T i) 1) [ true ↦ skipFrom n T (i + 1)
 unfoldable pub skipLines : List ℕ → ℕ → ℕ
 skipLines T i = skipFrom (count T - i) T i
 
+-- found at i where the test holds, else nothing
 unfoldable pub seenIf : Bool → ℕ → Seen
 seenIf true i = At i
 seenIf false i = Nothing

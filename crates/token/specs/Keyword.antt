@@ -62,6 +62,7 @@ abbrev pub keep : Bool → Entry → List Entry → List Entry
 keep true k ks = k ∷ ks
 keep false k ks = ks
 
+-- the entries whose word has n bytes
 abbrev pub sized : ℕ → List Entry → List Entry
 sized n [] = []
 sized n (k ∷ ks) = keep (eqb n (length (k .word))) k (sized n ks)
