@@ -8,9 +8,12 @@
  *   1, length, behind, 0, 0               sets the source; its bytes follow; no answer
  *   2, token words, error words, fill, 0  lexes it
  *   3, buffer bytes, fill, start, start   decodes the string at start (low word, high word)
- * An answer is four words and then the tables, or the buffer, as the call left them:
+ *   4, token, error and node words, fill  reads it
+ * An answer is some words and then the tables, or the buffer, as the call left them:
  *   outcome, tokens, errors, intact       after 2; the token words and the error words follow
  *   outcome, length, length, intact       after 3 (low word, high word); the buffer's bytes follow
+ *   outcome, tokens, errors, nodes, first statement, intact
+ *                                         after 4; the token, error and node words follow
  * Each table lies between guards; intact is 1 if all of them are as they were, else 0.
  *
  * No header is included: the toolchain's compiler comes without those of the C library.
@@ -28,15 +31,19 @@ void exit(int status) __attribute__((noreturn));
 /* The border: a slice is a pointer and a length, an answer is a struct as C lays it out. */
 struct Scanned { u32 outcome, tokens, errors; };
 struct Decoded { u32 outcome; usize length; };
+struct Answer { u32 outcome, tokens, errors, nodes, first; };
 struct Scanned kettleplume_scan(const u8 *source, usize length, u32 *tokens, usize token_words,
                                 u32 *errors, usize error_words);
 struct Decoded kettleplume_decode(const u8 *source, usize length, usize start, u8 *buffer, usize room);
+struct Answer kettleplume_read(const u8 *source, usize length, u32 *tokens, usize token_words,
+                               u32 *errors, usize error_words, u32 *nodes, usize node_words);
 
 enum {
     GUARD = 8, /* words or bytes on each side of a table */
     SOURCE = 1 << 17,
     TOKEN_WORDS = 7 * (1 << 16) + 64,
-    ERROR_WORDS = 3 * (1 << 16) + 64,
+    ERROR_WORDS = 3 * (1 << 17) + 64,
+    NODE_WORDS = 9 * (1 << 18) + 64,
     BUFFER = 1 << 17,
     PIPE = 1 << 16
 };
@@ -47,6 +54,7 @@ static u8 source[SOURCE + GUARD];
 static usize source_length;
 static u32 tokens[TOKEN_WORDS + 2 * GUARD];
 static u32 errors[ERROR_WORDS + 2 * GUARD];
+static u32 nodes[NODE_WORDS + 2 * GUARD];
 static u8 buffer[BUFFER + 2 * GUARD];
 
 static u8 in[PIPE], out[PIPE];
@@ -117,6 +125,21 @@ static void lex(usize token_words, usize error_words, u32 fill) {
     put(errors + GUARD, error_words * sizeof(u32));
 }
 
+static void read_whole(usize token_words, usize error_words, usize node_words, u32 fill) {
+    if (token_words > TOKEN_WORDS || error_words > ERROR_WORDS || node_words > NODE_WORDS) exit(2);
+    lay(tokens, token_words, fill);
+    lay(errors, error_words, fill);
+    lay(nodes, node_words, fill);
+    struct Answer r = kettleplume_read(source, source_length, tokens + GUARD, token_words,
+                                       errors + GUARD, error_words, nodes + GUARD, node_words);
+    u32 whole = intact(tokens, token_words) & intact(errors, error_words) & intact(nodes, node_words);
+    u32 answer[6] = {r.outcome, r.tokens, r.errors, r.nodes, r.first, whole};
+    put(answer, sizeof answer);
+    put(tokens + GUARD, token_words * sizeof(u32));
+    put(errors + GUARD, error_words * sizeof(u32));
+    put(nodes + GUARD, node_words * sizeof(u32));
+}
+
 static void decode(usize room, u8 fill, usize start) {
     if (room > BUFFER) exit(2);
     memset(buffer, GUARD_BYTE, room + 2 * GUARD);
@@ -138,6 +161,7 @@ int main(void) {
         case 1: set_source(q[1], (u8)q[2]); break;
         case 2: lex(q[1], q[2], q[3]); break;
         case 3: decode(q[1], (u8)q[2], (usize)q[4] << 32 | q[3]); break;
+        case 4: read_whole(q[1], q[2], q[3], q[4]); break;
         default: return 2;
         }
     }

@@ -4,8 +4,9 @@ use std::fmt::{self, Write as _};
 use std::slice;
 
 use crate::dice::Dice;
-use crate::expect::{expect, Decoding, Error, Expected, Lexing, Token};
-use crate::host::{Answer, DecodeAnswer, DecodeCall, Host, LexAnswer, LexCall, Request};
+use crate::host::{Answer, DecodeAnswer, DecodeCall, Host, LexAnswer, LexCall, ReadCall, Request};
+use crate::whole::{read_differs, Wanted};
+use readings::lexing::{expect, Decoding, Error, Expected, Lexing, Token};
 
 /// A source and the calls to make with it.
 #[derive(Debug, Clone)]
@@ -20,6 +21,7 @@ pub struct Trial {
 pub enum Call {
     Lex(LexCall, Want),
     Decode(DecodeCall, Decoding),
+    Read(ReadCall, Wanted),
 }
 
 /// What a lexing must come to.
@@ -139,6 +141,7 @@ fn ask(host: &mut Host, trials: &[Trial]) -> Result<Option<(usize, Difference)>,
             requests.push(match call {
                 Call::Lex(call, _) => Request::Lex(*call),
                 Call::Decode(call, _) => Request::Decode(*call),
+                Call::Read(call, _) => Request::Read(*call),
             });
             calls.push(Some((index, call)));
         }
@@ -186,6 +189,7 @@ fn check(call: &Call, answer: &Answer) -> Option<String> {
                 answer.length
             ))
         }
+        (Call::Read(call, wanted), Answer::Read(answer)) => read_differs(call, wanted, answer),
         _ => panic!("an answer to another call"),
     }
 }
@@ -220,8 +224,8 @@ fn lex_differs(call: &LexCall, lexing: &Lexing, answer: &LexAnswer) -> Option<St
     }
 }
 
-/// A table must begin with these words and be unchanged behind them: where it isn't.
-fn table_differs(table: &[u32], words: &[u32], fill: u32) -> Option<usize> {
+/// A table must begin with these words and hold one word behind them: where it doesn't.
+pub fn table_differs(table: &[u32], words: &[u32], fill: u32) -> Option<usize> {
     if let Some(rest) = table.strip_prefix(words) {
         let at = rest.iter().position(|&word| word != fill)?;
         return Some(words.len() + at);

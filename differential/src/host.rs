@@ -23,6 +23,7 @@ pub enum Request<'a> {
     },
     Lex(LexCall),
     Decode(DecodeCall),
+    Read(ReadCall),
 }
 
 /// A call of `kettleplume_scan`: the tables' sizes in words, and the word they are filled with.
@@ -39,6 +40,15 @@ pub struct DecodeCall {
     pub start: u64,
     pub room: usize,
     pub fill: u8,
+}
+
+/// A call of `kettleplume_read`: the tables' sizes in words, and the word they are filled with.
+#[derive(Debug, Clone, Copy)]
+pub struct ReadCall {
+    pub token_words: usize,
+    pub error_words: usize,
+    pub node_words: usize,
+    pub fill: u32,
 }
 
 /// The answer of `kettleplume_scan` and the tables afterwards.
@@ -63,11 +73,27 @@ pub struct DecodeAnswer {
     pub buffer: Vec<u8>,
 }
 
+/// The answer of `kettleplume_read` and the tables afterwards.
+#[derive(Debug, Clone)]
+pub struct ReadAnswer {
+    pub outcome: u32,
+    pub tokens: u32,
+    pub errors: u32,
+    pub nodes: u32,
+    pub first: u32,
+    /// Whether the guards round the tables are as they were.
+    pub intact: bool,
+    pub token_table: Vec<u32>,
+    pub error_table: Vec<u32>,
+    pub node_table: Vec<u32>,
+}
+
 /// What the host answers; a `Source` has no answer.
 #[derive(Debug, Clone)]
 pub enum Answer {
     Lex(LexAnswer),
     Decode(DecodeAnswer),
+    Read(ReadAnswer),
 }
 
 /// A running child.
@@ -145,6 +171,10 @@ impl Request<'_> {
                 let (low, high) = (c.start as u32, (c.start >> 32) as u32);
                 [3, size(c.room), u32::from(c.fill), low, high]
             }
+            Request::Read(c) => {
+                let (tokens, errors) = (size(c.token_words), size(c.error_words));
+                [4, tokens, errors, size(c.node_words), c.fill]
+            }
         };
         words
             .iter()
@@ -177,6 +207,20 @@ impl Request<'_> {
                     length: u64::from(head[2]) << 32 | u64::from(head[1]),
                     intact: head[3] == 1,
                     buffer,
+                }))
+            }
+            Request::Read(call) => {
+                let head = words(from, 6)?;
+                Some(Answer::Read(ReadAnswer {
+                    outcome: head[0],
+                    tokens: head[1],
+                    errors: head[2],
+                    nodes: head[3],
+                    first: head[4],
+                    intact: head[5] == 1,
+                    token_table: words(from, call.token_words)?,
+                    error_table: words(from, call.error_words)?,
+                    node_table: words(from, call.node_words)?,
                 }))
             }
         })

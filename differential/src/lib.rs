@@ -1,18 +1,22 @@
 //! The differential test: the Rattle library, through its C border, against the original Rust.
 //!
 //! `cargo test -p differential` compares a sample, `cargo run --release -p differential -- lex
-//! COUNT SEED` as much as is wanted. Both need the Rattle toolchain's `rt` on the PATH: it builds
-//! the library.
+//! COUNT SEED` as many lexings as are wanted, with `read` whole readings. All need the Rattle
+//! toolchain's `rt` on the PATH: it builds the library.
 
+pub mod blackout;
 pub mod compare;
 pub mod dice;
-pub mod expect;
 pub mod host;
+pub mod limits;
 pub mod lists;
+pub mod patterns;
+pub mod reads;
 pub mod refusals;
 pub mod run;
 pub mod scripts;
 pub mod show;
+pub mod whole;
 
 use compare::{Difference, Trial};
 use dice::Dice;
@@ -20,9 +24,11 @@ use lists::{
     all_of_length, longest, near_keywords, numbers_about_the_limits, singles_and_pairs, ALPHABET,
     IN_NUMBERS, IN_STRINGS,
 };
+use reads::{sequences, Scripts, DIVIDING, INDEXING, TOKENS};
 use refusals::{about_the_longest, between_strings, decodings, rooms, text_edge, text_edges};
 use run::Comparison;
 use scripts::{any_script, damaged, script};
+use whole::reading;
 
 /// How much is compared.
 pub struct Sizes {
@@ -114,4 +120,115 @@ pub fn edges(comparison: &mut Comparison, sizes: &Sizes, seed: u64) -> Result<()
     comparison.group("text test", text_edges(), text_edge)?;
     let inside = text_edges().map(between_strings);
     comparison.group("text test, inside", inside, text_edge)
+}
+
+/// How many whole readings are compared.
+pub struct ReadSizes {
+    /// All sequences of up to so many tokens, and longer ones of fewer tokens.
+    pub tokens: u32,
+    /// So many scripts of each generated group.
+    pub scripts: usize,
+    /// So many scripts for tables of each size.
+    pub rooms: usize,
+    /// So many long scripts.
+    pub long: usize,
+    /// Of the longest scripts and the levels, each that many-th.
+    pub step: usize,
+}
+
+impl ReadSizes {
+    /// Some seconds' worth.
+    pub fn sample() -> ReadSizes {
+        ReadSizes {
+            tokens: 2,
+            scripts: 5_000,
+            rooms: 200,
+            long: 5,
+            step: 7,
+        }
+    }
+
+    /// So many generated scripts and the rest in keeping.
+    pub fn of(count: usize) -> ReadSizes {
+        ReadSizes {
+            tokens: 3,
+            scripts: count / 4,
+            rooms: count / 50,
+            long: count / 5_000,
+            step: 1,
+        }
+    }
+}
+
+/// Whole readings, all groups. They belong on a large stack: the original's trees are as deep as
+/// the scripts.
+pub fn read(comparison: &mut Comparison, sizes: &ReadSizes, seed: u64) -> Result<(), Difference> {
+    readings_of_all_kinds(comparison, sizes, seed)?;
+    readings_at_limits(comparison, sizes, seed)?;
+    longest_readings(comparison, sizes, seed)
+}
+
+/// Whole readings with room enough.
+pub fn readings_of_all_kinds(
+    comparison: &mut Comparison,
+    sizes: &ReadSizes,
+    seed: u64,
+) -> Result<(), Difference> {
+    let all = sequences(&TOKENS, sizes.tokens);
+    comparison.group("sequences of tokens", all, reading)?;
+    let dividing = sequences(&DIVIDING, sizes.tokens + 1);
+    comparison.group("sequences of some tokens", dividing, reading)?;
+    let indexing = sequences(&INDEXING, sizes.tokens + 3);
+    comparison.group("sequences of few tokens", indexing, reading)?;
+    let mut scripts = Scripts::new(seed);
+    let grammar = (0..sizes.scripts).map(|_| scripts.grammar());
+    comparison.group("statements of all forms", grammar, reading)?;
+    let slips = (0..sizes.scripts).map(|_| scripts.slips());
+    comparison.group("statements with slips", slips, reading)?;
+    let damaged = (0..sizes.scripts).map(|_| scripts.damaged());
+    comparison.group("damaged statements", damaged, reading)?;
+    let blank = (0..sizes.scripts).map(|_| scripts.blank_lines());
+    comparison.group("blank lines", blank, reading)?;
+    comparison.group("newlines", limits::newlines(), reading)
+}
+
+/// Whole readings with rooms, levels and counts about the limits.
+pub fn readings_at_limits(
+    comparison: &mut Comparison,
+    sizes: &ReadSizes,
+    seed: u64,
+) -> Result<(), Difference> {
+    comparison.group("listed scripts", limits::listed(), limits::rooms)?;
+    let mut scripts = Scripts::new(seed.wrapping_add(1));
+    let short = (0..sizes.rooms).map(|_| scripts.any());
+    comparison.group("table rooms", short, limits::rooms)?;
+    let long = (0..sizes.long).map(|_| scripts.long());
+    comparison.group("long scripts", long, limits::edges)?;
+    comparison.group("counts", limits::counts(), limits::edges)?;
+    let levels = limits::levels().step_by(sizes.step);
+    comparison.group("levels", levels, limits::exact)?;
+    let about = about_the_longest();
+    comparison.group("about 65,535 bytes", about, limits::refusals)?;
+    comparison.group("text test", text_edges(), limits::refusals)
+}
+
+/// Whole readings of scripts of the greatest length.
+pub fn longest_readings(
+    comparison: &mut Comparison,
+    sizes: &ReadSizes,
+    _: u64,
+) -> Result<(), Difference> {
+    // A part of each group, or all.
+    let step = sizes.step;
+    let longest = limits::longest().step_by(step);
+    comparison.group("65,535 bytes", longest, limits::exact)?;
+    let lists = limits::longest_lists().step_by(step);
+    comparison.group("lists of 65,535 bytes", lists, limits::exact)?;
+    let deepest = limits::deepest().step_by(step);
+    comparison.group("deepest", deepest, reading)?;
+    let sets = patterns::sets().step_by(step);
+    comparison.group("Sets in Sets", sets, patterns::read_sets)?;
+    // The last ones take long here too.
+    let newlines = patterns::newlines().step_by(step);
+    comparison.group("very many newlines", newlines, patterns::read_newlines)
 }

@@ -1,20 +1,42 @@
-//! `differential lex COUNT SEED` is the long run; `differential show FILE` prints what the library
-//! makes of a script.
+//! `differential lex COUNT SEED` and `differential read COUNT SEED` are the long runs;
+//! `differential blackout COUNT SEED` tries what may be blacked out, and without words writes the
+//! pairs that the prover tries; `differential show FILE` prints what the library makes of a script.
 
 use std::io::Write as _;
 use std::process::ExitCode;
 
+use differential::compare::Difference;
 use differential::host::Host;
 use differential::run::Comparison;
 use differential::show::show;
-use differential::{lex, Sizes};
+use differential::{blackout, lex, read, ReadSizes, Sizes};
+use oracle::on_large_stack;
 
 fn main() -> ExitCode {
     let words: Vec<String> = std::env::args().skip(1).collect();
     let words: Vec<&str> = words.iter().map(String::as_str).collect();
     match words[..] {
         ["lex", count, seed] => match (count.parse(), seed.parse()) {
-            (Ok(count), Ok(seed)) => compare(count, seed),
+            (Ok(count), Ok(seed)) => compare(|c| lex(c, &Sizes::of(count), seed)),
+            _ => usage(),
+        },
+        ["read", count, seed] => match (count.parse(), seed.parse()) {
+            // The original's trees are as deep as the scripts.
+            (Ok(count), Ok(seed)) => {
+                on_large_stack(|| compare(|c| read(c, &ReadSizes::of(count), seed)))
+            }
+            _ => usage(),
+        },
+        ["blackout"] => write_pairs(),
+        ["blackout", "random", count, seed] => match (count.parse(), seed.parse()) {
+            (Ok(count), Ok(seed)) => {
+                print!("{}", blackout::pairs::random(count, seed).text);
+                ExitCode::SUCCESS
+            }
+            _ => usage(),
+        },
+        ["blackout", count, seed] => match (count.parse(), seed.parse()) {
+            (Ok(count), Ok(seed)) => black_out(count, seed),
             _ => usage(),
         },
         ["show", file] => print(file),
@@ -23,15 +45,18 @@ fn main() -> ExitCode {
 }
 
 /// Compares, prints how much of each group there was, and the difference if there is one.
-fn compare(count: usize, seed: u64) -> ExitCode {
-    let mut comparison = Comparison::start();
-    let outcome = lex(&mut comparison, &Sizes::of(count), seed);
+fn compare(all: impl FnOnce(&mut Comparison) -> Result<(), Difference>) -> ExitCode {
+    let mut comparison = Comparison::telling(|group| println!("{group}"));
+    let outcome = all(&mut comparison);
     let (mut scripts, mut calls, mut seconds) = (0, 0, 0.0);
     for group in &comparison.groups {
-        println!("{group}");
         scripts += group.scripts;
         calls += group.calls.values().sum::<u64>();
         seconds += group.seconds;
+    }
+    let [messages, kinds] = comparison.seen().map(|seen| seen.len());
+    if kinds > 0 {
+        println!("in whole readings: {messages} messages, {kinds} kinds of nodes");
     }
     println!("in all: {scripts} scripts, {calls} calls, {seconds:.1} s");
     match outcome {
@@ -44,6 +69,29 @@ fn compare(count: usize, seed: u64) -> ExitCode {
             ExitCode::FAILURE
         }
     }
+}
+
+/// Tries demand 3 on random pairs and prints what was tried.
+fn black_out(count: usize, seed: u64) -> ExitCode {
+    match blackout::blackout(Some(&mut Host::start()), count, seed) {
+        Ok(report) => {
+            println!("{report}no difference");
+            ExitCode::SUCCESS
+        }
+        Err(difference) => {
+            print!("A DIFFERENCE\n{difference}");
+            ExitCode::FAILURE
+        }
+    }
+}
+
+/// Writes the theorems about pairs of scripts.
+fn write_pairs() -> ExitCode {
+    for file in blackout::pairs::files() {
+        file.write().expect("the file is written");
+        println!("{}", file.name);
+    }
+    ExitCode::SUCCESS
 }
 
 fn print(file: &str) -> ExitCode {
@@ -63,7 +111,11 @@ fn print(file: &str) -> ExitCode {
 
 fn usage() -> ExitCode {
     eprintln!(
-        "differential lex COUNT SEED: compares COUNT generated scripts and more\n\
+        "differential lex COUNT SEED: compares lexings of COUNT generated scripts and more\n\
+         differential read COUNT SEED: compares whole readings of COUNT generated scripts and more\n\
+         differential blackout COUNT SEED: tries COUNT pairs that may be blacked out\n\
+         differential blackout: writes the pairs that the prover tries\n\
+         differential blackout random COUNT SEED: prints COUNT random ones\n\
          differential show FILE: prints the tokens and errors of a script"
     );
     ExitCode::from(2)

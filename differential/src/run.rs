@@ -1,12 +1,13 @@
 //! Runs groups of scripts through the comparison, counts them, and makes a script that differs as
 //! small as it can.
 
-use std::collections::BTreeMap;
+use std::collections::{BTreeMap, BTreeSet};
 use std::fmt;
 use std::time::Instant;
 
 use crate::compare::{run, Call, Difference, Trial, Want};
 use crate::host::Host;
+use crate::whole::Wanted;
 
 /// How often a smaller script is tried: some that differ by their length alone can't get smaller.
 const TRIES: usize = 2_000;
@@ -18,6 +19,8 @@ pub type Make = fn(&[u8]) -> Trial;
 pub struct Comparison {
     host: Host,
     pub groups: Vec<Group>,
+    /// What is done with each group when it has been compared.
+    tell: fn(&Group),
 }
 
 /// How much of a group has been compared.
@@ -27,6 +30,9 @@ pub struct Group {
     pub scripts: u64,
     /// How many calls there were of each function and outcome, `?` where any answer would do.
     pub calls: BTreeMap<String, u64>,
+    /// The messages and the kinds of nodes in what whole readings must keep.
+    pub messages: BTreeSet<u32>,
+    pub kinds: BTreeSet<u32>,
     pub seconds: f64,
 }
 
@@ -38,8 +44,13 @@ impl Group {
                 Call::Lex(_, Want::Exact(lexing)) => format!("lex {}", lexing.outcome),
                 Call::Lex(_, Want::Open) => "lex ?".to_string(),
                 Call::Decode(_, decoding) => format!("decode {}", decoding.outcome),
+                Call::Read(_, wanted) => format!("read {}", wanted.outcome()),
             };
             *self.calls.entry(name).or_default() += 1;
+            if let Call::Read(_, Wanted::Exact(answer, _)) = call {
+                self.messages.extend(answer.errors.iter().map(|e| e[0]));
+                self.kinds.extend(answer.nodes.iter().map(|n| n[0]));
+            }
         }
     }
 }
@@ -61,10 +72,23 @@ impl fmt::Display for Group {
 
 impl Comparison {
     pub fn start() -> Comparison {
+        Comparison::telling(|_| ())
+    }
+
+    pub fn telling(tell: fn(&Group)) -> Comparison {
         Comparison {
             host: Host::start(),
             groups: vec![],
+            tell,
         }
+    }
+
+    /// The messages that whole readings must have recorded, and the kinds of their nodes.
+    pub fn seen(&self) -> [BTreeSet<u32>; 2] {
+        let groups = self.groups.iter();
+        let messages = groups.clone().flat_map(|group| group.messages.clone());
+        let kinds = groups.flat_map(|group| group.kinds.clone());
+        [messages.collect(), kinds.collect()]
     }
 
     /// Compares each script; ends at the first difference, with the smallest script that still
@@ -79,6 +103,8 @@ impl Comparison {
             name,
             scripts: 0,
             calls: BTreeMap::new(),
+            messages: BTreeSet::new(),
+            kinds: BTreeSet::new(),
             seconds: 0.0,
         };
         let begin = Instant::now();
@@ -100,6 +126,7 @@ impl Comparison {
             batch.iter().for_each(|trial| group.count(trial));
         }
         group.seconds = begin.elapsed().as_secs_f64();
+        (self.tell)(&group);
         self.groups.push(group);
         Ok(())
     }

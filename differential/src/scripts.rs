@@ -87,7 +87,7 @@ fn piece(dice: &mut Dice, script: &mut String) {
 }
 
 /// A name that is near a keyword: longer, shorter, with another letter or in capitals.
-fn name(dice: &mut Dice, script: &mut String) {
+pub fn name(dice: &mut Dice, script: &mut String) {
     let keyword = dice.pick(&KEYWORDS);
     let letter = char::from(b"abfnstz_AZ"[dice.below(10)]);
     let cut = dice.below(keyword.len());
@@ -143,7 +143,7 @@ fn number(dice: &mut Dice, script: &mut String) {
 }
 
 /// A string; one in eight isn't closed, one in eight has a wrong escape.
-fn string(dice: &mut Dice, script: &mut String) {
+pub fn string(dice: &mut Dice, script: &mut String) {
     script.push('"');
     for _ in 0..dice.below(6) {
         *script += dice.pick(&INNER);

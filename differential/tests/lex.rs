@@ -1,5 +1,6 @@
 //! A sample of the comparison, for the gate.
 
+use differential::blackout::blackout;
 use differential::compare::Difference;
 use differential::host::Host;
 use differential::run::Comparison;
@@ -24,6 +25,13 @@ fn scripts() {
 #[test]
 fn refusals() {
     compare(edges);
+}
+
+/// Here and not with the other tests of blacking out: a process builds the library once.
+#[test]
+fn what_may_be_blacked_out_is_lexed_alike() {
+    let report = blackout(Some(&mut Host::start()), 2_000, SEED).unwrap_or_else(|e| panic!("{e}"));
+    assert_eq!(report.library.values().sum::<u64>(), 2_000);
 }
 
 #[test]

@@ -2,7 +2,7 @@
 //!
 //! The six modules are byte for byte copies from the repository mliezun/grotsky, commit
 //! f3837697bb, under the MIT licence (see `LICENSE`). `SHA256SUMS` holds their sums, and a test
-//! compares them. Everything that is ours stands in this file, outside the copies.
+//! compares them. Everything that is ours stands in this file, outside the copies, and in `logged`.
 //!
 //! The package has to be built with overflow checks off, as the workspace's profiles do: with
 //! them on, `previous` panics after a statement that is followed by two newlines.
@@ -27,6 +27,8 @@ pub mod stmt;
 #[allow(warnings, clippy::all)]
 #[rustfmt::skip]
 pub mod token;
+
+pub mod logged;
 
 use std::cell::Cell;
 use std::panic::{self, AssertUnwindSafe};

@@ -4,12 +4,12 @@
 //! SORT VALUE` with the bytes that it stands for; for each error that is kept, `e MESSAGE LINE
 //! POS`; and `u 0`: no word behind the kept records has changed.
 
-mod judge;
+pub(crate) mod judge;
 mod scripts;
 
-use crate::dice::Dice;
 use crate::sheet::{hex, Sheet};
 use judge::{ERROR_WIDTH, TOKEN_WIDTH};
+use readings::dice::Dice;
 
 /// The most words of a table.
 const MOST_WORDS: usize = 4096;

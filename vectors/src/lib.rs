@@ -1,14 +1,17 @@
-//! Test vectors for the Rattle program `replay`, and their answers.
+//! Test vectors for the Rattle programs `replay` and `rereads`, and their answers.
 //!
-//! A vector is a line of the program's standard input, its answer a line of the standard output.
+//! A vector of `replay` is a line of its standard input, its answer a line of its standard output;
+//! `rereads` has scripts as they are, and the tables that whole readings leave.
 //! The answers come from a judge in Rust that shares nothing with the Rattle code: the original
 //! where it has such a thing, Rust's own library, or a plain rendering of document 01.
 //! `definition` makes theorems instead: scripts with the original's answers, for the prover.
+//! `outlines` makes what the program `outline` has to print.
 
 pub mod definition;
-pub mod dice;
 pub mod leaves;
 pub mod lexing;
+pub mod outlines;
+pub mod rereads;
 pub mod sheet;
 
 use sheet::Sheet;

@@ -1,7 +1,9 @@
-//! `cargo run -p vectors` writes the vectors of the program `replay` and their answers, and tells
-//! how many there are with each letter. `cargo run -p vectors -- definition` writes the theorems
+//! `cargo run -p vectors` writes the vectors of the programs `replay` and `rereads` and their answers,
+//! and tells how many there are with each letter. `cargo run -p vectors -- definition` writes the theorems
 //! that compare the definition of the reading with the original; with `slow`, or with a seed and a
 //! count, it prints another such file: of scripts that take long to try, or of random ones.
+//! `cargo run -p vectors -- outlines` writes the outlines of `examples/` and what the program
+//! `outcomes` reads and prints.
 
 use std::process::ExitCode;
 
@@ -10,6 +12,7 @@ fn main() -> ExitCode {
     match words.iter().map(String::as_str).collect::<Vec<_>>()[..] {
         [] => write_vectors(),
         ["definition"] => write_theorems(),
+        ["outlines"] => write_outlines(),
         ["definition", "slow"] => print!("{}", vectors::definition::slow().text()),
         ["definition", seed, count] => {
             let (Ok(seed), Ok(count)) = (seed.parse(), count.parse()) else {
@@ -23,7 +26,7 @@ fn main() -> ExitCode {
 }
 
 fn usage() -> ExitCode {
-    eprintln!("usage: vectors [definition [slow | SEED COUNT]]");
+    eprintln!("usage: vectors [definition [slow | SEED COUNT] | outlines]");
     ExitCode::FAILURE
 }
 
@@ -35,11 +38,21 @@ fn write_vectors() {
     for (letter, count) in sheet.counts() {
         println!("{letter} {count}");
     }
+    let readings = vectors::rereads::vectors();
+    readings.write_files().expect("the files are written");
+    println!("whole readings {}", readings.count);
 }
 
 fn write_theorems() {
     for file in vectors::definition::files() {
         file.write().expect("the file is written");
         println!("{} {}", file.name, file.len());
+    }
+}
+
+fn write_outlines() {
+    for (path, bytes) in vectors::outlines::files() {
+        std::fs::write(&path, bytes).expect("the file is written");
+        println!("{}", path.display());
     }
 }

@@ -10,7 +10,7 @@ use vectors::sheet::path;
 fn stored_theorems_are_made_by_the_generator() {
     for file in files() {
         let name = format!("proofs/{}.antt", file.name);
-        let stored = fs::read_to_string(path("reader", &name)).expect("the file is there");
+        let stored = fs::read_to_string(path("scripts", &name)).expect("the file is there");
         assert!(
             stored == file.text(),
             "{name} differs: run `cargo run -p vectors -- definition`"

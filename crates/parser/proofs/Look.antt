@@ -1,13 +1,11 @@
 -- Laws of looking at tokens, in the form that the code's facts have. Assumes nothing.
-use mathlib.Core.Path.{_≡_, refl, ap, _∙_}
+use mathlib.Core.Path.{_≡_, refl, ap}
 use mathlib.Core.Bool.{Bool, true, false}
 use mathlib.Core.List.{List, [], _∷_}
-use Prim.Native.Nat.{ℕ, zero, suc, _+_, _-_, _<_, _≤_}
+use Prim.Native.Nat.{ℕ, zero, suc, _+_, _-_, _<_}
 use native.Mathlib.Omega.{arith}
 use borrow.Author.Tests.{eq-eqb, ne-eqb, ltb-true, ltb-false}
 use lib.Dec.{ltb}
-use lib.ListN.{length, drop, getD}
-use lib.Seq.{drop-cons, drop-nil}
 use Rattle.records.specs.Table.{tokenWidth}
 use Rattle.records.proofs.Field.{field-none}
 use Rattle.parser.specs.declared.Seen.{Seen}
@@ -73,28 +71,6 @@ check-found T at k i s e h = rw (ne-eqb _ _ e, eq-eqb _ _ h, checkAt) (ap At s)
 pub check-none : (T : List ℕ) (at k : ℕ) → (k ≡ 1 → ⊥) → (kindAt T (skipLines T at) ≡ k → ⊥) → Nothing ≡ checkAt T at k
 unfolding checkAt seenIf
 check-none T at k e h = rw (ne-eqb _ _ e, ne-eqb _ _ h, checkAt)
-
--- ---- `matches_many`: the kinds from k on
-none-left : (ks : List ℕ) (k : ℕ) → length ks ≤ k → drop k ks ≡ []
-none-left [] k h = drop-nil k
-none-left (x ∷ ks) zero h = absurd (omega arith)
-none-left (x ∷ ks) (suc k) h = none-left ks k (omega arith)
-
-module _ (T : List ℕ) (i : ℕ) (ks : List ℕ) (k : ℕ) where
-  -- kind k decides, and where it is not found the next ones
-  first-kind : k < length ks → (s : Seen) → matchesAt T i (getD ks k 0) ≡ s → matchesMany T i (drop k ks) ≡ orNext s (matchesMany T i (drop (suc k) ks))
-  unfolding matchesMany
-  first-kind h s e = ap (matchesMany T i) (drop-cons ks k 0 h) ∙ ap (λ (t : Seen). orNext t (matchesMany T i (drop (suc k) ks))) e
-
-  pub many-found : k < length ks → (j : ℕ) → matchesAt T i (getD ks k 0) ≡ At j → matchesMany T i (drop k ks) ≡ At j
-  many-found h j e = first-kind h (At j) e
-
-  pub many-next : k < length ks → matchesAt T i (getD ks k 0) ≡ Nothing → matchesMany T i (drop k ks) ≡ matchesMany T i (drop (k + 1) ks)
-  many-next h e = let one : suc k ≡ k + 1 = omega arith in first-kind h Nothing e ∙ ap (λ (n : ℕ). matchesMany T i (drop n ks)) one
-
-  pub many-end : length ks ≤ k → matchesMany T i (drop k ks) ≡ Nothing
-  unfolding matchesMany
-  many-end h = ap (matchesMany T i) (none-left ks k h)
 
 -- what `lookMany` does is decided by `matches_many`
 pub run-many : (T : List ℕ) (low : Which → Reader) (ks : List ℕ) (found : ℕ → Prog) (missing : Prog) (p : Parser) (E N : List ℕ) →

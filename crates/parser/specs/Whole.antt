@@ -1,12 +1,14 @@
 -- `parse`: the top-level statements, what is kept, and the answer.
 use Prim.Native.Nat.{ℕ, zero, suc}
 use mathlib.Core.Bool.{Bool, true, false}
+use mathlib.Core.Path.{_≡_}
 use mathlib.Core.List.{List}
 use lib.Dec.{eqb}
 use Rattle.token.specs.Kind.{Newline}
 use Rattle.records.specs.Table.{linked, zeroed, nodeWidth}
 use Rattle.parser.specs.declared.Parser.{Parser}
 use Rattle.parser.specs.declared.Got.the-variants.{Node, Stop}
+use Rattle.parser.specs.declared.Parsed as answers
 use Rattle.parser.specs.Tokens.{count, kindAt}
 use Rattle.parser.specs.Tables.{Read, read, andThen, consumeAt}
 use Rattle.parser.specs.Programs.{Reader, Declaration}
@@ -49,3 +51,12 @@ statements (suc f) T first last p E N =
 -- the parsing of a token table, with so many errors recorded before
 unfoldable pub parsed : List ℕ → ℕ → List ℕ → List ℕ → Parsed
 parsed T errors E N = statements (suc (count T)) T 0 0 (record { current = 0; errors = errors; nodes = 0; loops = 0 }) E N
+
+-- what a parsing answers, and the tables it leaves
+pub record Parsing (d : Parsed) (r : answers.Parsed) (errors′ nodes′ : List ℕ) : Type 0 where
+  pub outcome-is : r .outcome ≡ d .outcome
+  pub errors-are : r .errors ≡ d .errorCount
+  pub nodes-are : r .nodes ≡ d .nodeCount
+  pub first-is : r .first ≡ d .first
+  pub error-table : errors′ ≡ d .errors
+  pub node-table : nodes′ ≡ d .nodes

@@ -1,10 +1,10 @@
-// The parser of parser.rs: tokens to nodes. This file has the state, what readers answer, and the leaves.
+// What the readers of parser.rs stand on: the state, what a reader answers, and the leaves, which look at tokens and write nodes and errors.
 ghost use mathlib.Core.Path.{_≡_};
 ghost use mathlib.Core.List.{List};
 ghost use mathlib.Core.Bool.{not};
 ghost use Prim.Native.Nat.{ℕ, _-_};
 ghost use lib.Dec.{eqb};
-ghost use Rattle.parser.specs.Tokens.{kindAt, lineAt, after, skipLines, checkAt, matchesAt, matchesMany};
+ghost use Rattle.parser.specs.Tokens.{kindAt, lineAt, after, skipLines, checkAt, matchesAt};
 ghost use Rattle.parser.specs.Tables.{Read, read, moved, looped, pushNode, pushError, plain, consumeAt, requireAt};
 ghost use Rattle.parser.specs.Programs.{raised};
 ghost use Rattle.parser.specs.Reading.{firstOf};
@@ -55,20 +55,20 @@ pub enum Seen {
 
 // ---- looking at tokens. Past the table's end every kind is EOF's.
 
-fn kind_at(tokens: &[u32], i: u32) -> u32
+pub fn kind_at(tokens: &[u32], i: u32) -> u32
     ensures { λ r. ⌜ r ≡ kindAt (now (tokens .entry)) i ⌝ }
 {
     records::token_kind(tokens, i)
 }
 
-fn line_at(tokens: &[u32], i: u32) -> u32
+pub fn line_at(tokens: &[u32], i: u32) -> u32
     ensures { λ r. ⌜ r ≡ lineAt (now (tokens .entry)) i ⌝ }
 {
     records::token_line(tokens, i)
 }
 
 // The token behind token i; there is none behind EOF.
-fn next(tokens: &[u32], i: u32) -> u32
+pub fn next(tokens: &[u32], i: u32) -> u32
     ensures { λ r. ⌜ r ≡ after (now (tokens .entry)) i ⌝ }
 {
     if kind_at(tokens, i) == Token::EOF {
@@ -78,7 +78,7 @@ fn next(tokens: &[u32], i: u32) -> u32
 }
 
 // The first token at or behind start that is no Newline.
-fn skip(tokens: &[u32], start: u32) -> u32
+pub fn skip(tokens: &[u32], start: u32) -> u32
     ensures { λ r. ⌜ r ≡ skipLines (now (tokens .entry)) start ⌝ }
 {
     let mut i = start;
@@ -89,7 +89,7 @@ fn skip(tokens: &[u32], start: u32) -> u32
 }
 
 // `check`: for any kind but Newline it passes newlines. Where it finds the token the cursor stays on it; else the caller keeps its own.
-fn check(tokens: &[u32], at: u32, kind: u32) -> Seen
+pub fn check(tokens: &[u32], at: u32, kind: u32) -> Seen
     ensures { λ r. ⌜ r ≡ checkAt (now (tokens .entry)) at kind ⌝ }
 {
     if kind == Token::NEWLINE {
@@ -109,7 +109,7 @@ fn check(tokens: &[u32], at: u32, kind: u32) -> Seen
 }
 
 // `matches`: the cursor behind the token found.
-fn matches(tokens: &[u32], at: u32, kind: u32) -> Seen
+pub fn matches(tokens: &[u32], at: u32, kind: u32) -> Seen
     ensures { λ r. ⌜ r ≡ matchesAt (now (tokens .entry)) at kind ⌝ }
 {
     match check(tokens, at, kind) {
@@ -118,22 +118,8 @@ fn matches(tokens: &[u32], at: u32, kind: u32) -> Seen
     }
 }
 
-// `matches_many`: the kinds are tried in their order.
-fn matches_many(tokens: &[u32], at: u32, kinds: &[u32]) -> Seen
-    ensures { λ r. ⌜ r ≡ matchesMany (now (tokens .entry)) at (now (kinds .entry)) ⌝ }
-{
-    let mut k = 0;
-    while k < kinds.len() {
-        if let Seen::At(i) = matches(tokens, at, kinds[k]) {
-            return Seen::At(i);
-        }
-        k += 1;
-    }
-    Seen::Nothing
-}
-
 // `is_at_end`: it passes no newlines.
-fn is_at_end(tokens: &[u32], p: Parser) -> bool
+pub fn is_at_end(tokens: &[u32], p: Parser) -> bool
     ensures { λ r. ⌜ r ≡ eqb (kindAt (now (tokens .entry)) (p .current)) 0 ⌝ }
 {
     let at = p.current;
@@ -144,7 +130,7 @@ fn is_at_end(tokens: &[u32], p: Parser) -> bool
 
 impl Parser {
     // The reading goes on at token i.
-    fn at_token(self, i: u32) -> Self
+    pub fn at_token(self, i: u32) -> Self
         ensures { λ r. ⌜ r ≡ moved self i ⌝ }
     {
         Parser {
@@ -156,7 +142,7 @@ impl Parser {
     }
 
     // The reading goes on with so many open loops.
-    fn with_loops(self, n: u32) -> Self
+    pub fn with_loops(self, n: u32) -> Self
         ensures { λ r. ⌜ r ≡ looped self n ⌝ }
     {
         Parser {
@@ -168,13 +154,13 @@ impl Parser {
     }
 
     // `previous`: the reference of the token before the cursor is the cursor itself.
-    fn previous(self) -> u32
+    pub fn previous(self) -> u32
         ensures { λ r. ⌜ r ≡ self .current ⌝ }
     {
         self.current
     }
 
-    fn enter_loop(self) -> Self
+    pub fn enter_loop(self) -> Self
         ensures { λ r. ⌜ r ≡ looped self (raised (self .loops)) ⌝ }
     {
         let n = self.loops;
@@ -184,7 +170,7 @@ impl Parser {
         self.with_loops(n)
     }
 
-    fn leave_loop(self) -> Self
+    pub fn leave_loop(self) -> Self
         ensures { λ r. ⌜ r ≡ looped self (self .loops - 1) ⌝ }
     {
         let n = self.loops;
@@ -194,7 +180,7 @@ impl Parser {
         self.with_loops(n - 1)
     }
 
-    fn inside_loop(self) -> bool
+    pub fn inside_loop(self) -> bool
         ensures { λ r. ⌜ r ≡ not (eqb (self .loops) 0) ⌝ }
     {
         self.loops != 0
@@ -204,7 +190,7 @@ impl Parser {
 // ---- answers
 
 // A node, or a token's reference, that is nothing left of `=`.
-fn gives(p: Parser, n: u32) -> Out
+pub fn gives(p: Parser, n: u32) -> Out
     ensures { λ r. ⌜ r ≡ record { p = p; got = Got.Node (plain n) } ⌝ }
 {
     Out {
@@ -217,7 +203,7 @@ fn gives(p: Parser, n: u32) -> Out
     }
 }
 
-fn stopped(p: Parser, outcome: u32) -> Out
+pub fn stopped(p: Parser, outcome: u32) -> Out
     ensures { λ r. ⌜ r ≡ record { p = p; got = Got.Stop outcome } ⌝ }
 {
     Out {
@@ -229,14 +215,14 @@ fn stopped(p: Parser, outcome: u32) -> Out
 // ---- writing
 
 // A list's first member: the one it has, or the one that is added. `records::link` puts a node behind the last.
-fn first_of(first: u32, n: u32) -> u32
+pub fn first_of(first: u32, n: u32) -> u32
     ensures { λ r. ⌜ r ≡ firstOf first n ⌝ }
 {
     if first == 0 { n } else { first }
 }
 
 // One more node: its reference; 7 where it finds no room.
-fn make(nodes: &mut [u32], p: Parser, d: Node) -> Out
+pub fn make(nodes: &mut [u32], p: Parser, d: Node) -> Out
     ensures { λ r. ⌜ ((E : List ℕ) → read (r .p) (r .got) E (now (nodes .exit)) ≡ pushNode d p E (now (nodes .entry))) ⌝ }
 {
     let n = p.nodes;
@@ -255,7 +241,7 @@ fn make(nodes: &mut [u32], p: Parser, d: Node) -> Out
 }
 
 // The one function that makes a parser error: message, and the token whose line it reports; 6 where it finds no room.
-fn set_error(tokens: &[u32], errors: &mut [u32], p: Parser, message: u32, token: u32) -> Out
+pub fn set_error(tokens: &[u32], errors: &mut [u32], p: Parser, message: u32, token: u32) -> Out
     ensures { λ r. ⌜ ((N : List ℕ) → read (r .p) (r .got) (now (errors .exit)) N ≡ pushError (now (tokens .entry)) message token p (now (errors .entry)) N) ⌝ }
 {
     let n = p.errors;
@@ -280,7 +266,7 @@ fn set_error(tokens: &[u32], errors: &mut [u32], p: Parser, message: u32, token:
 }
 
 // `consume`: the token's reference; or its absence is an error, and 0.
-fn consume(tokens: &[u32], errors: &mut [u32], p: Parser, kind: u32, message: u32) -> Out
+pub fn consume(tokens: &[u32], errors: &mut [u32], p: Parser, kind: u32, message: u32) -> Out
     ensures { λ r. ⌜ ((N : List ℕ) → read (r .p) (r .got) (now (errors .exit)) N ≡ consumeAt (now (tokens .entry)) kind message p (now (errors .entry)) N) ⌝ }
 {
     let at = p.current;
@@ -291,7 +277,7 @@ fn consume(tokens: &[u32], errors: &mut [u32], p: Parser, kind: u32, message: u3
 }
 
 // A `consume` whose result is unwrapped: its failure stops the reading.
-fn require(tokens: &[u32], errors: &mut [u32], p: Parser, kind: u32, message: u32) -> Out
+pub fn require(tokens: &[u32], errors: &mut [u32], p: Parser, kind: u32, message: u32) -> Out
     ensures { λ r. ⌜ ((N : List ℕ) → read (r .p) (r .got) (now (errors .exit)) N ≡ requireAt (now (tokens .entry)) kind message p (now (errors .entry)) N) ⌝ }
 {
     let at = p.current;
@@ -307,4 +293,12 @@ fn require(tokens: &[u32], errors: &mut [u32], p: Parser, kind: u32, message: u3
             stopped(q, 1)
         }
     }
+}
+
+// How the parsing ended, how many errors and nodes are kept, and the first statement.
+pub struct Parsed {
+    pub outcome: u32,
+    pub errors: u32,
+    pub nodes: u32,
+    pub first: u32,
 }

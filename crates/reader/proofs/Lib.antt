@@ -1,8 +1,5 @@
-pub mod Arguments
-pub mod Cases
-pub mod Limits
-pub mod Oracle
-pub mod Parameters
+pub mod Entry
+pub mod One
+pub mod Rooms
 pub mod Sizes
-pub mod Stars
-pub mod Worked
+pub mod Codes

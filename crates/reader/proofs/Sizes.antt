@@ -5,7 +5,7 @@ use mathlib.Core.List.{List, [], _∷_, _++_}
 use mathlib.Core.Logic.{⊎-elim}
 use Prim.Native.Nat.{ℕ, _+_, _-_, _*_, _≤_, _<_}
 use native.Mathlib.Omega.{arith}
-use borrow.Author.Tests.{eqb-true}
+use borrow.Author.Tests.{eqb-true, le-ltb}
 use lib.Dec.{ltb, eqb}
 use lib.ListN.{length, getD, take, drop, replicate, length-append, length-drop, List·getD-append}
 use lib.Seq.{take-append-seam, drop-append-add, drop-drop, getD-append-add}
@@ -110,7 +110,7 @@ well s a b = at (ltb 65535 (length s)) (isText s)
 over-long : (ws t t′ : List ℕ) → length t ≡ length t′ → length (over ws t) ≡ length (over ws t′)
 over-long ws t t′ l = simp (length-append, length-drop, l)
 
-over-keeps : (ws t : List ℕ) → length ws ≤ length t → length (over ws t) ≡ length t
+pub over-keeps : (ws t : List ℕ) → length ws ≤ length t → length (over ws t) ≡ length t
 over-keeps ws t h = let a = length-append ws (drop (length ws) t) in let b = length-drop (length ws) t in omega arith
 
 over-take : (w : ℕ) (ws t : List ℕ) → length ws ≡ w → take w (over ws t) ≡ ws
@@ -250,3 +250,25 @@ reading-rest s t e n =
     let a = room tokenWidth t in
     let b = room errorWidth e in
     after-rest (lexedOf s a b) (well s a b) t e n (tokens-within s t b) (errors-within s e a)
+
+-- a source that is text and not too long is read: the reading does not end with 3 or 4
+pub reading-read : (s t e n : List ℕ) → length s ≤ 65535 → isText s ≡ true → unread (reading s t e n .outcome) ≡ false
+unfolding reading lexedOf lexed
+reading-read s t e n l x =
+    let a = room tokenWidth t in
+    let b = room errorWidth e in
+    let d = lexedOf s a b in
+    let i : d ≡ lexed s a b = simp (le-ltb 65535 (length s) l, x) in
+    after d (over (d .tokens) t) (over (d .errors) e) (ap (λ (r : Result). unread (r .outcome)) i ∙ emit-read a b (items s 0) fresh)
+  where
+    after : (d : Result) (T E : List ℕ) → unread (d .outcome) ≡ false → unread (readAfter d T E n .outcome) ≡ false
+    after d T E u = at (eqb (d .outcome) 0) (unread (d .outcome))
+      where
+        parse : (o : ℕ) → isOutcome o ≡ true → (y : Bool) → unread o ≡ y → unread o ≡ false
+        parse o h true q = outcome-read o h q
+        parse o h false q = q
+
+        at : (x y : Bool) → unread (pickReading x (λ _. joined (d .tokenCount) T (parsed T (d .errorCount) E n)) (λ _. pickReading y (λ _. refused d T E n) λ _. refused d T E (zeroed nodeWidth n 0)) .outcome) ≡ false
+        at true y = parse (parsed T (d .errorCount) E n .outcome) (parsed-outcome T (d .errorCount) E n) (unread (parsed T (d .errorCount) E n .outcome)) refl
+        at false true = u
+        at false false = u

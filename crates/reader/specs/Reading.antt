@@ -1,5 +1,6 @@
 -- The whole reading, from bytes to the three tables: outcomes 0 to 8 in document 01's order.
 use Prim.Native.Nat.{ℕ, _+_}
+use mathlib.Core.Path.{_≡_}
 use mathlib.Core.Bool.{Bool, true, false, _||_}
 use mathlib.Core.List.{List, _++_}
 use lib.Dec.{eqb}
@@ -7,6 +8,7 @@ use lib.ListN.{length, drop}
 use Rattle.records.specs.Table.{room, zeroed, tokenWidth, errorWidth, nodeWidth}
 use Rattle.lexer.specs.Lex.{Result, lexedOf}
 use Rattle.parser.specs.Whole.{Parsed, parsed}
+use Rattle.reader.specs.declared.Answer.{Answer}
 
 -- what a reading comes to: the answer in its order, and the three tables
 pub record Reading : Type 0 where
@@ -48,3 +50,14 @@ unfoldable pub reading : List ℕ → List ℕ → List ℕ → List ℕ → Rea
 reading s t e n =
     let d = lexedOf s (room tokenWidth t) (room errorWidth e) in
     readAfter d (over (d .tokens) t) (over (d .errors) e) n
+
+-- what a reading answers, and the three tables it leaves: every word of them
+pub record Answers (d : Reading) (r : Answer) (tokens′ errors′ nodes′ : List ℕ) : Type 0 where
+  pub outcome-is : r .outcome ≡ d .outcome
+  pub tokens-are : r .tokens ≡ d .tokenCount
+  pub errors-are : r .errors ≡ d .errorCount
+  pub nodes-are : r .nodes ≡ d .nodeCount
+  pub first-is : r .first ≡ d .first
+  pub token-table : tokens′ ≡ d .tokens
+  pub error-table : errors′ ≡ d .errors
+  pub node-table : nodes′ ≡ d .nodes

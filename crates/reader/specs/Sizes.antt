@@ -1,11 +1,11 @@
 -- What the theorems say of the whole reading: it depends on the tables' sizes only, and what it does not keep it leaves.
-use Prim.Native.Nat.{ℕ, _*_}
+use Prim.Native.Nat.{ℕ, _*_, _≤_}
 use mathlib.Core.Path.{_≡_}
 use mathlib.Core.Bool.{Bool, true, false, _||_}
 use mathlib.Core.List.{List}
 use lib.Dec.{eqb}
 use lib.ListN.{length, take, drop}
-use Rattle.records.specs.Table.{tokenWidth, errorWidth}
+use Rattle.records.specs.Table.{room, tokenWidth, errorWidth, nodeWidth}
 use Rattle.reader.specs.Reading.{Reading}
 
 -- outcomes 3 and 4: the source is no text, or too long, and nothing of it is read
@@ -31,3 +31,9 @@ pub record Rest (t e n : List ℕ) (r : Reading) : Type 0 where
   pub tokens-rest : drop (tokenWidth * r .tokenCount) (r .tokens) ≡ drop (tokenWidth * r .tokenCount) t
   pub errors-rest : drop (errorWidth * r .errorCount) (r .errors) ≡ drop (errorWidth * r .errorCount) e
   pub unchanged : unread (r .outcome) ≡ true → (r .tokens ≡ t) × (r .errors ≡ e) × (r .nodes ≡ n)
+
+-- the counts keep to the rooms of the tables t, e and n
+pub record Within (t e n : List ℕ) (r : Reading) : Type 0 where
+  pub tokens-fit : r .tokenCount ≤ room tokenWidth t
+  pub errors-fit : r .errorCount ≤ room errorWidth e
+  pub nodes-fit : r .nodeCount ≤ room nodeWidth n

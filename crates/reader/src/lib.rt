@@ -3,8 +3,62 @@ ghost use lib.ListN.{length};
 ghost use Rattle.records.specs.Table.{room, tokenWidth, errorWidth};
 ghost use Rattle.lexer.specs.Lex.{lexedOf, Lexing};
 ghost use Rattle.strings.specs.Strings.{decodeOf, Decoding};
+ghost use Rattle.reader.specs.Reading.{reading, Answers};
 use lexer::Scanned;
 use strings::Decoded;
+
+// What a reading answers: the outcome, how many tokens, errors and nodes are kept, and the first statement, 0 where none is.
+#[repr(C)]
+pub struct Answer {
+    pub outcome: u32,
+    pub tokens: u32,
+    pub errors: u32,
+    pub nodes: u32,
+    pub first: u32,
+}
+
+// Reads a source into the three tables. What was lexed to its end is parsed, also if errors were recorded. Else no node is kept: after 3 and
+// 4 the node table is as it was, after any other refusal it is all zeros.
+pub fn read(source: &[u8], tokens: &mut [u32], errors: &mut [u32], nodes: &mut [u32]) -> Answer
+    ensures { λ r. ⌜ Answers (reading (now (source .entry)) (now (tokens .entry)) (now (errors .entry)) (now (nodes .entry)))
+        r (now (tokens .exit)) (now (errors .exit)) (now (nodes .exit)) ⌝ }
+{
+    let d = lexer::scan(source, tokens, errors);
+    if d.outcome == 0 {
+        let p = statements::parse(tokens, errors, nodes, d.errors);
+        return Answer {
+            outcome: p.outcome,
+            tokens: d.tokens,
+            errors: p.errors,
+            nodes: p.nodes,
+            first: p.first,
+        };
+    }
+    if (d.outcome != 3) & (d.outcome != 4) {
+        records::zero_rest(nodes, 0);
+    }
+    Answer {
+        outcome: d.outcome,
+        tokens: d.tokens,
+        errors: d.errors,
+        nodes: 0,
+        first: 0,
+    }
+}
+
+// The same for Rust and C.
+#[no_mangle]
+pub extern "C" fn kettleplume_read(
+    source: &[u8],
+    tokens: &mut [u32],
+    errors: &mut [u32],
+    nodes: &mut [u32],
+) -> Answer
+    ensures { λ r. ⌜ Answers (reading (now (source .entry)) (now (tokens .entry)) (now (errors .entry)) (now (nodes .entry)))
+        r (now (tokens .exit)) (now (errors .exit)) (now (nodes .exit)) ⌝ }
+{
+    read(source, tokens, errors, nodes)
+}
 
 // Lexes a source into a token table and an error table.
 #[no_mangle]

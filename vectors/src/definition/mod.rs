@@ -1,27 +1,21 @@
 //! Scripts with what the original makes of them, as theorems about the definition of the whole
-//! reading: each file in `crates/reader/proofs` that is made here has one table of scripts and
+//! reading: each file in `crates/scripts/proofs` that is made here has one table of scripts and
 //! one theorem, which says that the definition answers as the original does. Where the original
 //! has no answer, for want of tables and levels, the outcome and how many records are kept follow
 //! document 01 and stand beside the script; the records themselves are still the original's.
 
-mod marks;
-mod nodes;
 mod random;
 mod scripts;
 
 use std::fmt::Write as _;
-use std::panic::{self, AssertUnwindSafe};
 use std::{fs, io};
 
-use oracle::lexer::Lexer;
-use oracle::parser::Parser;
-use oracle::state::InterpreterState;
-use oracle::stmt::Stmt;
-use oracle::token::TokenData;
-use oracle::{message_number, on_large_stack, read, Stop};
+use oracle::on_large_stack;
+use readings::dice::Dice;
+use readings::grammar::Maker;
+use readings::whole::{known, Known, Whole};
 
 use crate::sheet::path;
-use nodes::Nodes;
 
 /// A script; a character is a byte.
 pub struct Script {
@@ -48,92 +42,53 @@ pub struct Case {
     pub words: Vec<Vec<u32>>,
 }
 
-/// What the original makes of a script.
-fn case(script: &Script) -> Case {
-    let bytes: Vec<u8> = script
-        .text
-        .chars()
-        .map(|c| u8::try_from(u32::from(c)).expect("a byte"))
-        .collect();
-    let Ok(source) = String::from_utf8(bytes) else {
-        let end = script.ends.expect("no text, so the original can't read it");
+/// What the original makes of a script. Where document 01 decides instead, how the reading ends
+/// stands beside the script, and the log of the original's parser has to say the same.
+pub fn case(script: &Script) -> Case {
+    let Script { text, ends } = script;
+    let byte = |c| u8::try_from(u32::from(c)).expect("a byte");
+    let bytes: Vec<u8> = text.chars().map(byte).collect();
+    let text = text.clone();
+    let Known::Read(whole) = known(&bytes) else {
+        let end = ends.expect("no text, so the original can't read it");
         // The node table is unchanged, also where it is not 0.
         let words = vec![vec![end.outcome, 0, 0, 0, 0], vec![7; 9 * end.rooms[2] + 8]];
-        let (text, rooms) = (script.text.clone(), end.rooms);
+        let rooms = end.rooms;
         return Case { text, rooms, words };
     };
-    let reading = read(&source);
-    let outcome = match reading.stop {
-        Stop::None => 0,
-        Stop::Parsing => 1,
-        Stop::Lexing => 2,
-    };
-    let stmts = match outcome {
-        2 => vec![],
-        _ => marked_statements(&source, &reading.tokens, reading.stop == Stop::Parsing),
-    };
-    assert_eq!(
-        marks::unmarked(&stmts, &reading.tokens),
-        format!("{:?}", reading.stmts),
-        "marks change what is read: {:?}",
-        script.text
-    );
-    let (tokens, errors) = (reading.tokens.len(), reading.errors.len());
-    let mut end = script.ends.unwrap_or(End {
-        outcome,
-        rooms: [tokens, errors, 0],
-        kept: [tokens, errors, stmts.len()],
-    });
-    let mut nodes = Nodes::new(&reading.tokens);
-    let (mut first, mut last) = (0, 0);
-    for stmt in &stmts[..end.kept[2]] {
-        let n = nodes.stmt(stmt);
-        nodes.link(last, n);
-        first = if first == 0 { n } else { first };
-        last = n;
+    let rooms = ends.map_or_else(|| rooms(&whole), |end| end.rooms);
+    let answer = whole.within(rooms);
+    let kept = [answer.tokens.len(), answer.errors.len(), answer.statements];
+    if let Some(end) = ends {
+        assert_eq!((answer.outcome, kept), (end.outcome, end.kept), "{text:?}");
     }
-    let count = nodes.nodes.len();
-    if script.ends.is_none() {
-        // A statement that stops has made nodes that the original doesn't tell.
-        end.rooms[2] = if outcome == 1 { 2 * tokens } else { count };
-    }
-    let [tokens, errors, _] = end.kept.map(|n| n as u32);
-    let mut words = vec![vec![end.outcome, tokens, errors, count as u32, first]];
-    for e in &reading.errors[..end.kept[1]] {
-        let message = message_number(&e.message).expect("a message of the original");
-        words.push(vec![message, e.line as u32, e.pos as u32]);
-    }
-    words.extend(nodes.nodes.iter().map(|n| n.to_vec()));
-    let (text, rooms) = (script.text.clone(), end.rooms);
+    let wrong = whole.tree_differs(&answer.nodes, answer.first, answer.statements);
+    assert_eq!(wrong, None, "the nodes aren't what is read: {text:?}");
+    let [tokens, errors, _] = kept.map(|n| n as u32);
+    let count = answer.nodes.len() as u32;
+    let mut words = vec![vec![answer.outcome, tokens, errors, count, answer.first]];
+    words.extend(answer.errors.iter().map(|e| e.to_vec()));
+    words.extend(answer.nodes.iter().map(|n| n.to_vec()));
     Case { text, rooms, words }
 }
 
-/// The statements of a script with each token marked by its place.
-fn marked_statements(source: &str, tokens: &[TokenData], stops: bool) -> Vec<Stmt> {
-    let mut state = InterpreterState::new(source.to_string());
-    Lexer::new(&mut state).scan();
-    state.tokens = tokens
-        .iter()
-        .enumerate()
-        .map(|(index, t)| marks::marked(index, t))
-        .collect();
-    let usual = panic::take_hook();
-    panic::set_hook(Box::new(|_| ()));
-    let ended = panic::catch_unwind(AssertUnwindSafe(|| Parser::new(&mut state).parse()));
-    panic::set_hook(usual);
-    assert_eq!(ended.is_err(), stops, "marks change whether it stops");
-    state.stmts
+/// What the original makes of a script with room enough: its answer, then each error and node.
+pub fn answer(source: &str) -> Vec<Vec<u32>> {
+    let (text, ends) = (source.bytes().map(char::from).collect(), None);
+    case(&Script { text, ends }).words
 }
 
-/// How many nodes have been made when each top-level statement of a script is finished.
-fn sizes(source: &str) -> Vec<usize> {
-    let reading = read(source);
-    let stmts = marked_statements(source, &reading.tokens, reading.stop == Stop::Parsing);
-    let mut nodes = Nodes::new(&reading.tokens);
-    stmts.iter().map(|stmt| nodes.stmt(stmt) as usize).collect()
+/// Tables that hold what is read.
+fn rooms(whole: &Whole) -> [usize; 3] {
+    let [tokens, errors, nodes] = whole.needs();
+    // A statement that stops has made nodes that the original doesn't tell.
+    match whole.within([tokens, errors, nodes]).outcome {
+        1 => [tokens, errors, 2 * tokens],
+        _ => [tokens, errors, nodes],
+    }
 }
 
-/// A file of the crate `reader`: its name, a comment, and its scripts.
+/// A file of the crate `scripts`: its name, a comment, and its scripts.
 pub struct File {
     pub name: &'static str,
     comment: &'static str,
@@ -152,13 +107,20 @@ pub fn slow() -> File {
 
 /// A file of random scripts, which is tried but not kept.
 pub fn random(seed: u64, count: usize) -> File {
-    let dice = crate::dice::Dice::new(seed);
-    let mut maker = random::Maker { dice };
+    let dice = Dice::new(seed);
+    let mut maker = Maker { dice };
     File {
         name: "Random",
         comment: "Random scripts, with what the original answers.",
-        scripts: (0..count).map(|_| maker.script()).collect(),
+        scripts: (0..count).map(|_| random::script(&mut maker)).collect(),
     }
+}
+
+/// Random scripts without end; their tokens stand apart by a space.
+pub fn texts(seed: u64) -> impl Iterator<Item = String> {
+    let dice = Dice::new(seed);
+    let mut maker = Maker { dice };
+    std::iter::repeat_with(move || maker.text())
 }
 
 impl File {
@@ -193,7 +155,7 @@ impl File {
 
     pub fn write(&self) -> io::Result<()> {
         let file = format!("proofs/{}.antt", self.name);
-        fs::write(path("reader", &file), self.text())
+        fs::write(path("scripts", &file), self.text())
     }
 }
 
@@ -209,7 +171,7 @@ fn quoted(text: &str) -> String {
 }
 
 /// What each file uses.
-const HEAD: &str = include_str!("head.txt");
+pub const HEAD: &str = include_str!("head.txt");
 
 /// What has to be computed.
-const UNFOLDING: &str = include_str!("unfolding.txt");
+pub const UNFOLDING: &str = include_str!("unfolding.txt");

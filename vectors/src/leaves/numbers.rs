@@ -4,11 +4,11 @@
 //! The judge of values is Rust's own `parse`, on the decimal text; that of sizes a direct reading
 //! of rule 4, which is compared with the original.
 
-use crate::dice::Dice;
 use crate::leaves::FAR;
 use crate::sheet::{hex, Sheet};
 use oracle::token::Literal;
 use oracle::Stop;
+use readings::dice::Dice;
 
 /// The largest m and k whose value is given.
 const MOST_DIGITS: u64 = 1 << 53;

@@ -2,9 +2,9 @@
 //!
 //! The judge counts with Rust's own byte classes. Names are compared with the original.
 
-use crate::dice::Dice;
 use crate::leaves::FAR;
 use crate::sheet::{hex, Sheet};
+use readings::dice::Dice;
 
 fn is_alpha(b: u8) -> bool {
     b.is_ascii_alphabetic() || b == b'_'

@@ -5,12 +5,12 @@
 //! The judge is a direct rendering of rule 5 and of document 01's paragraph on decoding. What it
 //! says of a valid text is compared with the original.
 
-use crate::dice::Dice;
 use crate::leaves::text::is_text;
 use crate::leaves::FAR;
 use crate::sheet::{hex, Sheet};
 use oracle::token::{Literal, Token, TokenData};
 use oracle::{message_number, Reading, Stop};
+use readings::dice::Dice;
 
 /// The longest source that is read.
 pub(crate) const MOST_BYTES: usize = 65_535;

@@ -2,8 +2,8 @@
 //!
 //! The judge is a table of document 01's four lines. What Rust takes as a `str` passes it.
 
-use crate::dice::Dice;
 use crate::sheet::{hex, Sheet};
+use readings::dice::Dice;
 use std::ops::RangeInclusive;
 
 /// The first bytes that the test knows, with how many bytes 80..BF follow each.

@@ -8,6 +8,7 @@ use crate::sheet::hex;
 use oracle::state::InterpreterError;
 use oracle::token::{Literal, TokenData};
 use oracle::{message_number, Stop};
+use std::ops::Range;
 
 /// The words of a token record and of an error record.
 pub const TOKEN_WIDTH: usize = 7;
@@ -15,7 +16,8 @@ pub const ERROR_WIDTH: usize = 3;
 
 /// What lexing does, one thing after the other; a record is the fields of the answer.
 enum Event {
-    Token(String),
+    /// With the first four words of its record.
+    Token(String, [u32; 4]),
     Error(String),
     /// A number with a point runs to the last byte.
     Cut,
@@ -63,9 +65,9 @@ fn keep(source: &[u8], token_room: usize, error_room: usize) -> Kept {
     for event in events(source) {
         match event {
             Event::Cut => kept.outcome = 2,
-            Event::Token(_) if kept.tokens.len() == token_room => kept.outcome = 5,
+            Event::Token(..) if kept.tokens.len() == token_room => kept.outcome = 5,
             Event::Error(_) if kept.errors.len() == error_room => kept.outcome = 6,
-            Event::Token(record) => kept.tokens.push(record),
+            Event::Token(record, _) => kept.tokens.push(record),
             Event::Error(record) => kept.errors.push(record),
         }
         if kept.outcome != 0 {
@@ -101,7 +103,7 @@ fn events(source: &[u8]) -> Vec<Event> {
             let end = at + token.lexeme.len();
             assert!(at < end, "a token before the end has bytes");
             assert_eq!(token.lexeme, script[at..end]);
-            events.push(Event::Token(record(token, &source[at..end])));
+            events.push(event(token, source, at..end));
             at = end;
         } else {
             assert!(numeral(&source[at..]).cut, "only a number stops the lexing");
@@ -114,9 +116,25 @@ fn events(source: &[u8]) -> Vec<Event> {
     assert!(errors.next().is_none(), "every error has its place");
     for token in tokens {
         assert_eq!(token.lexeme, "", "only empty tokens stand at the end");
-        events.push(Event::Token(record(token, b"")));
+        events.push(event(token, source, at..at));
     }
     events
+}
+
+/// A token that stands for these bytes of the source.
+fn event(token: &TokenData, source: &[u8], place: Range<usize>) -> Event {
+    let (start, length) = (place.start as u32, place.len() as u32);
+    let words = [token.token as u32, start, length, token.line as u32];
+    Event::Token(record(token, &source[place]), words)
+}
+
+/// Kind, start, length and line of each token of a text.
+pub fn token_words(source: &[u8]) -> Vec<[u32; 4]> {
+    let words = |event| match event {
+        Event::Token(_, words) => Some(words),
+        _ => None,
+    };
+    events(source).into_iter().filter_map(words).collect()
 }
 
 /// The number of an error's message.

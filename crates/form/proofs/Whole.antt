@@ -1,0 +1,63 @@
+-- From the text of a reading to the outline of a script. Assumes nothing.
+use mathlib.Core.Path.{_≡_, refl, sym, ap, subst, _∙_}
+use mathlib.Core.Bool.{Bool, cond}
+use mathlib.Core.List.{List, [], _∷_, _++_}
+use Prim.Native.Nat.{ℕ, _≤_, _<_}
+use native.Mathlib.Omega.{arith}
+use borrow.Author.Tests.{lt-ltb, le-ltb}
+use lib.ListN.{length, take, drop, replicate}
+use lib.Seq.{length-take-le}
+use Rattle.io.specs.Counts.{Counts}
+use Rattle.records.specs.Table.{tokenWidth, errorWidth, nodeWidth}
+use Rattle.reader.specs.declared.Answer.{Answer}
+use Rattle.reader.specs.Reading.{Reading, reading, Answers}
+use Rattle.form.specs.Text.{Holds, headOf, linesOf, readOf, textOf, outlineOf}
+use Rattle.form.proofs.Laws.{holds-within}
+
+fields-same : {A : Type 0} (f : ℕ → ℕ → ℕ → ℕ → ℕ → List ℕ → List ℕ → List ℕ → A) (a b c d e a′ b′ c′ d′ e′ : ℕ) (t u v t′ u′ v′ : List ℕ)
+    → a ≡ a′ → b ≡ b′ → c ≡ c′ → d ≡ d′ → e ≡ e′ → t ≡ t′ → u ≡ u′ → v ≡ v′ → f a b c d e t u v ≡ f a′ b′ c′ d′ e′ t′ u′ v′
+fields-same f a b c d e a′ b′ c′ d′ e′ t u v t′ u′ v′ p q r s o x y z = cc
+
+-- what a promise allows is the reading itself
+read-is : (d : Reading) (r : Answer) (T E N : List ℕ) → Answers d r T E N → readOf r T E N ≡ d
+read-is d r T E N h =
+    fields-same (λ o t e n f T E N. record { outcome = o; tokenCount = t; errorCount = e; nodeCount = n; first = f; tokens = T; errors = E; nodes = N })
+    (r .outcome) (r .tokens) (r .errors) (r .nodes) (r .first) (d .outcome) (d .tokenCount) (d .errorCount) (d .nodeCount) (d .first) T E N (d .tokens) (d .errors) (d .nodes)
+    (h .outcome-is) (h .tokens-are) (h .errors-are) (h .nodes-are) (h .first-is) (h .token-table) (h .error-table) (h .node-table)
+
+-- the parts of a reading's text, as they are written one behind the other
+pub text-is : (r : Answer) (T E N B u : List ℕ) (at : ℕ)
+    → Holds
+    ([] ++
+    headOf (r .outcome ∷ r .tokens ∷ r .errors ∷ r .nodes ∷ r .first ∷ []) ++
+    linesOf 116 T tokenWidth 4 (r .tokens) ++
+    linesOf 101 E errorWidth 3 (r .errors) ++
+    linesOf 110 N nodeWidth 9 (r .nodes))
+    B u at
+    → Holds (textOf (readOf r T E N)) B u at
+unfolding textOf
+text-is r T E N B u at h = h
+
+-- a script that is too long
+pub outline-long : (s B u : List ℕ) (at : ℕ) → 4096 < length s → Holds ([] ++ headOf (4 ∷ 0 ∷ 0 ∷ 0 ∷ 0 ∷ [])) B u at → Holds (outlineOf s) B u at
+unfolding outlineOf
+outline-long s B u at l h =
+    subst (λ (b : Bool). Holds (cond b (headOf (4 ∷ 0 ∷ 0 ∷ 0 ∷ 0 ∷ [])) (textOf (reading s (replicate 14336 0) (replicate 768 0) (replicate 14400 0)))) B u at)
+    (sym (lt-ltb 4096 (length s) l)) h
+
+-- any other
+pub outline-read : (s B u : List ℕ) (at : ℕ) (r : Answer) (T E N : List ℕ) → length s ≤ 4096 → Answers (reading s (replicate 14336 0) (replicate 768 0) (replicate 14400 0)) r T E N
+    → Holds (textOf (readOf r T E N)) B u at → Holds (outlineOf s) B u at
+unfolding outlineOf
+outline-read s B u at r T E N l a h =
+    let d = reading s (replicate 14336 0) (replicate 768 0) (replicate 14400 0) in
+    subst (λ (b : Bool). Holds (cond b (headOf (4 ∷ 0 ∷ 0 ∷ 0 ∷ 0 ∷ [])) (textOf d)) B u at) (sym (le-ltb 4096 (length s) l))
+    (subst (λ (x : Reading). Holds (textOf x) B u at) (read-is d r T E N a) h)
+
+-- what is held counts bytes of the buffer
+pub holds-counts : (t B u : List ℕ) (at : ℕ) → Holds t B u at → Counts at u
+holds-counts t B u at h = (holds-within t B u at h, sym (length-take-le at u (holds-within t B u at h)))
+
+-- a promise allows one answer only: the count and every byte of the buffer
+pub one-text : (t B u u′ : List ℕ) (at at′ : ℕ) → Holds t B u at → Holds t B u′ at′ → (at ≡ at′) × (u ≡ u′)
+one-text t B u u′ at at′ x y = let e : at ≡ at′ = cc in (e, x .bytes ∙ ap (λ (k : ℕ). take k t ++ drop k B) e ∙ sym (y .bytes))

@@ -1,0 +1,65 @@
+-- Document 01's form of a reading as text: a line `o` for the answer, then one for each token, error and node that is kept.
+use Prim.Native.Nat.{ℕ, zero, suc, _+_, _*_, _/_, _%_, min}
+use mathlib.Core.Path.{_≡_}
+use mathlib.Core.Bool.{Bool, cond}
+use mathlib.Core.List.{List, [], _∷_, _++_}
+use lib.Dec.{ltb}
+use lib.ListN.{length, getD, take, drop, replicate}
+use Rattle.records.specs.Table.{tokenWidth, errorWidth, nodeWidth}
+use Rattle.reader.specs.declared.Answer.{Answer}
+use Rattle.reader.specs.Reading.{Reading, reading}
+
+-- the digits of a number below 10 ^ k, without zeros in front
+abbrev pub digitsWithin : ℕ → ℕ → List ℕ
+digitsWithin zero n = []
+digitsWithin (suc k) n = cond (ltb n 10) ((48 + n) ∷ []) (digitsWithin k (n / 10) ++ ((48 + n % 10) ∷ []))
+
+-- a word of 32 bits in decimal: it has at most ten digits
+unfoldable pub decimal : ℕ → List ℕ
+decimal n = digitsWithin 10 n
+
+-- a space, and the word
+abbrev pub field : ℕ → List ℕ
+field n = 32 ∷ decimal n
+
+-- so many words of the table from a place on
+unfoldable pub fields : List ℕ → ℕ → ℕ → List ℕ
+fields t from zero = []
+fields t from (suc k) = fields t from k ++ field (getD t (from + k) 0)
+
+-- a letter, such words, and the line's end
+abbrev pub lineOf : ℕ → List ℕ → ℕ → ℕ → List ℕ
+lineOf letter t from shown = letter ∷ fields t from shown ++ (10 ∷ [])
+
+-- the lines of so many records of w words, of which the first are shown
+unfoldable pub linesOf : ℕ → List ℕ → ℕ → ℕ → ℕ → List ℕ
+linesOf letter t w shown zero = []
+linesOf letter t w shown (suc n) = linesOf letter t w shown n ++ lineOf letter t (w * n) shown
+
+-- the answer's line: outcome, tokens, errors, nodes, first statement
+abbrev pub headOf : List ℕ → List ℕ
+headOf row = lineOf 111 row 0 5
+
+-- the whole text of a reading: of a token the first four words, of an error its three, of a node its nine
+unfoldable pub textOf : Reading → List ℕ
+textOf r =
+    headOf (r .outcome ∷ r .tokenCount ∷ r .errorCount ∷ r .nodeCount ∷ r .first ∷ []) ++
+    linesOf 116 (r .tokens) tokenWidth 4 (r .tokenCount) ++
+    linesOf 101 (r .errors) errorWidth 3 (r .errorCount) ++
+    linesOf 110 (r .nodes) nodeWidth 9 (r .nodeCount)
+
+-- an answer and the tables that it left, as a reading
+abbrev pub readOf : Answer → List ℕ → List ℕ → List ℕ → Reading
+readOf r T E N = record { outcome = r .outcome; tokenCount = r .tokens; errorCount = r .errors; nodeCount = r .nodes; first = r .first; tokens = T; errors = E; nodes = N }
+
+-- what `outline` prints of a script: it has room for 4,096 bytes, 2,048 tokens, 256 errors and 1,600 nodes
+unfoldable pub outlineOf : List ℕ → List ℕ
+outlineOf s =
+    cond (ltb 4096 (length s))
+    (headOf (4 ∷ 0 ∷ 0 ∷ 0 ∷ 0 ∷ []))
+    (textOf (reading s (replicate 14336 0) (replicate 768 0) (replicate 14400 0)))
+
+-- a buffer whose first bytes are a text, as far as there is room for it; behind them it is as it was before
+pub record Holds (text : List ℕ) (before : List ℕ) (buffer : List ℕ) (at : ℕ) : Type 0 where
+  pub count : at ≡ min (length text) (length before)
+  pub bytes : buffer ≡ take at text ++ drop at before

@@ -1,0 +1,174 @@
+-- `declaration`, of the cycle.
+use Prim.Native.Nat.{ℕ, _-_}
+use Rattle.parser.specs.Programs.{run, Declaration}
+use Rattle.parser.specs.Reading.{lower, body, declaration}
+use Rattle.readers.proofs.Steps.{lower-zero, lower-step}
+use Rattle.readers.proofs.class.Reads as class
+use Rattle.readers.proofs.declaration.Reads as declaration
+use Rattle.readers.proofs.+access+arguments+assignment+binary+block+call+class+declaration+elifs+fn_expr+fn_stmt+for_c+for_in+for_loop+func+if_stmt+let_stmt+methods+pairs+primary+ret+slice+stmt+try_catch+unary+upto+while_stmt.Lts-declaration as declaration-lts
+use Rattle.readers.proofs.fn_stmt.Reads as fn-stmt
+use Rattle.readers.proofs.let_stmt.Reads as let-stmt
+use Rattle.readers.proofs.stmt.Reads as stmt
+use Rattle.parser.proofs.Parser.at_token.Reads as at-token-reads
+use Rattle.parser.proofs.matches.Reads as matches-reads
+use Rattle.parser.proofs.stopped.Reads as stopped-reads
+use Rattle.readers.proofs.+access+arguments+assignment+binary+block+call+class+declaration+elifs+fn_expr+fn_stmt+for_c+for_in+for_loop+func+if_stmt+let_stmt+methods+pairs+primary+ret+slice+stmt+try_catch+unary+upto+while_stmt.Proof.Measures.{declaration-at, class-below, fn-stmt-below, let-stmt-below, stmt-below}
+use borrow.Author.Needs.{needs}
+use native.Mathlib.Omega.{arith}
+use mathlib.Core.Path.{_∙_}
+
+abbrev claims : ℕ → declaration-lts.Claims
+claims t = (stopped-reads.Asked, stopped-reads.Learnt, matches-reads.Asked, matches-reads.Learnt, at-token-reads.Asked, at-token-reads.Learnt, class-below t, class.Post, fn-stmt-below t, fn-stmt.Post, let-stmt-below t, let-stmt.Post, stmt-below t, stmt.Post)
+
+stopped-requires : (t : ℕ) → declaration-lts.Need-stopped-requires (claims t) (declaration-at t) declaration.Post
+stopped-requires t c κs = search needs
+
+returns : (t : ℕ) → declaration-lts.Need-returns (claims t) (declaration-at t) declaration.Post
+returns t c =
+    let z = lower-zero (c .before .before .before .before .before .args .tokens .now) (c .before .before .before .before .before .args .levels) Declaration (c .before .before .before .before .before .args .p) (c .before .before .before .before .before .args .errors .now) (c .before .before .before .before .before .args .nodes .now) (c .before .if1 .taken) in
+    rw (z, c .stopped .ensures)
+
+matches-requires : (t : ℕ) → declaration-lts.Need-matches-requires (claims t) (declaration-at t) declaration.Post
+matches-requires t c κs = search needs
+
+enum-known-i : (t : ℕ) → declaration-lts.Need-enum-known-i (claims t) (declaration-at t) declaration.Post
+enum-known-i t c = search needs
+
+at-token-requires : (t : ℕ) → declaration-lts.Need-at-token-requires (claims t) (declaration-at t) declaration.Post
+at-token-requires t c κs = search needs
+
+sub-class : (t : ℕ) → declaration-lts.Need-sub-class (claims t) (declaration-at t) declaration.Post
+sub-class t c = search needs
+
+class-requires : (t : ℕ) → declaration-lts.Need-class-requires (claims t) (declaration-at t) declaration.Post
+class-requires t c κs = omega (arith, c .before .before .before .before .before .before .before .before .before .before .before .pre)
+
+same-length : (t : ℕ) → declaration-lts.Need-same-length (claims t) (declaration-at t) declaration.Post
+same-length t c = c .before .before .before .before .class .kept .1 .0
+
+same-length-2 : (t : ℕ) → declaration-lts.Need-same-length-2 (claims t) (declaration-at t) declaration.Post
+same-length-2 t c = c .before .before .before .before .class .kept .1 .1 .0
+
+returns-2 : (t : ℕ) → declaration-lts.Need-returns-2 (claims t) (declaration-at t) declaration.Post
+unfolding run body declaration
+returns-2 t c =
+    let z = lower-step (c .before .before .before .before .before .before .before .before .before .before .before .before .before .before .before .before .args .tokens .now) (c .before .before .before .before .before .before .before .before .before .before .before .before .before .before .before .before .args .levels) Declaration (c .before .before .before .before .before .before .before .before .before .before .before .before .before .before .before .before .args .p) (c .before .before .before .before .before .before .before .before .before .before .before .before .before .before .before .before .args .errors .now) (c .before .before .before .before .before .before .before .before .before .before .before .before .before .before .before .before .args .nodes .now) (c .before .before .before .before .before .before .before .before .before .before .before .before .if1 .left) in
+    rw (z, ← c .before .before .before .before .before .before .before .before .before .before .before .matches .ensures, c .before .before .before .before .before .before .before .before .before .i .given .1) (rw (c .before .before .before .before .before .at-token .ensures) at (c .before .before .before .before .class .ensures))
+
+enum-told : (t : ℕ) → declaration-lts.Need-enum-told (claims t) (declaration-at t) declaration.Post
+enum-told t c = search needs
+
+matches-requires-2 : (t : ℕ) → declaration-lts.Need-matches-requires-2 (claims t) (declaration-at t) declaration.Post
+matches-requires-2 t c κs = search needs
+
+enum-known-i-2 : (t : ℕ) → declaration-lts.Need-enum-known-i-2 (claims t) (declaration-at t) declaration.Post
+enum-known-i-2 t c = search needs
+
+at-token-requires-2 : (t : ℕ) → declaration-lts.Need-at-token-requires-2 (claims t) (declaration-at t) declaration.Post
+at-token-requires-2 t c κs = search needs
+
+sub-fn-stmt : (t : ℕ) → declaration-lts.Need-sub-fn-stmt (claims t) (declaration-at t) declaration.Post
+sub-fn-stmt t c = search needs
+
+fn-stmt-requires : (t : ℕ) → declaration-lts.Need-fn-stmt-requires (claims t) (declaration-at t) declaration.Post
+fn-stmt-requires t c κs = omega (arith, c .before .before .before .before .before .before .before .before .before .before .before .before .before .before .pre)
+
+same-length-3 : (t : ℕ) → declaration-lts.Need-same-length-3 (claims t) (declaration-at t) declaration.Post
+same-length-3 t c = c .before .before .before .before .fn-stmt .kept .1 .0
+
+same-length-4 : (t : ℕ) → declaration-lts.Need-same-length-4 (claims t) (declaration-at t) declaration.Post
+same-length-4 t c = c .before .before .before .before .fn-stmt .kept .1 .1 .0
+
+returns-3 : (t : ℕ) → declaration-lts.Need-returns-3 (claims t) (declaration-at t) declaration.Post
+unfolding run body declaration
+returns-3 t c =
+    let z = lower-step (c .before .before .before .before .before .before .before .before .before .before .before .before .before .before .before .before .before .before .before .args .tokens .now) (c .before .before .before .before .before .before .before .before .before .before .before .before .before .before .before .before .before .before .before .args .levels) Declaration (c .before .before .before .before .before .before .before .before .before .before .before .before .before .before .before .before .before .before .before .args .p) (c .before .before .before .before .before .before .before .before .before .before .before .before .before .before .before .before .before .before .before .args .errors .now) (c .before .before .before .before .before .before .before .before .before .before .before .before .before .before .before .before .before .before .before .args .nodes .now) (c .before .before .before .before .before .before .before .before .before .before .before .before .before .before .before .if1 .left) in
+    rw (z, ← c .before .before .before .before .before .before .before .before .before .before .before .before .before .before .matches .ensures, c .before .before .before .before .before .before .before .before .before .before .before .before .enum-told .given .1) (rw (← c .before .before .before .before .before .before .before .before .before .before .before .matches2 .ensures, c .before .before .before .before .before .before .before .before .before .i2 .given .1) (rw (c .before .before .before .before .before .at-token2 .ensures) at (c .before .before .before .before .fn-stmt .ensures)))
+
+enum-told-2 : (t : ℕ) → declaration-lts.Need-enum-told-2 (claims t) (declaration-at t) declaration.Post
+enum-told-2 t c = search needs
+
+matches-requires-3 : (t : ℕ) → declaration-lts.Need-matches-requires-3 (claims t) (declaration-at t) declaration.Post
+matches-requires-3 t c κs = search needs
+
+enum-known-i-3 : (t : ℕ) → declaration-lts.Need-enum-known-i-3 (claims t) (declaration-at t) declaration.Post
+enum-known-i-3 t c = search needs
+
+at-token-requires-3 : (t : ℕ) → declaration-lts.Need-at-token-requires-3 (claims t) (declaration-at t) declaration.Post
+at-token-requires-3 t c κs = search needs
+
+sub-let-stmt : (t : ℕ) → declaration-lts.Need-sub-let-stmt (claims t) (declaration-at t) declaration.Post
+sub-let-stmt t c = search needs
+
+let-stmt-requires : (t : ℕ) → declaration-lts.Need-let-stmt-requires (claims t) (declaration-at t) declaration.Post
+let-stmt-requires t c κs = omega (arith, c .before .before .before .before .before .before .before .before .before .before .before .before .before .before .before .before .before .pre)
+
+same-length-5 : (t : ℕ) → declaration-lts.Need-same-length-5 (claims t) (declaration-at t) declaration.Post
+same-length-5 t c = c .before .before .before .before .let-stmt .kept .1 .0
+
+same-length-6 : (t : ℕ) → declaration-lts.Need-same-length-6 (claims t) (declaration-at t) declaration.Post
+same-length-6 t c = c .before .before .before .before .let-stmt .kept .1 .1 .0
+
+returns-4 : (t : ℕ) → declaration-lts.Need-returns-4 (claims t) (declaration-at t) declaration.Post
+unfolding run body declaration
+returns-4 t c =
+    let z = lower-step (c .before .before .before .before .before .before .before .before .before .before .before .before .before .before .before .before .before .before .before .before .before .before .args .tokens .now) (c .before .before .before .before .before .before .before .before .before .before .before .before .before .before .before .before .before .before .before .before .before .before .args .levels) Declaration (c .before .before .before .before .before .before .before .before .before .before .before .before .before .before .before .before .before .before .before .before .before .before .args .p) (c .before .before .before .before .before .before .before .before .before .before .before .before .before .before .before .before .before .before .before .before .before .before .args .errors .now) (c .before .before .before .before .before .before .before .before .before .before .before .before .before .before .before .before .before .before .before .before .before .before .args .nodes .now) (c .before .before .before .before .before .before .before .before .before .before .before .before .before .before .before .before .before .before .if1 .left) in
+    rw (z, ← c .before .before .before .before .before .before .before .before .before .before .before .before .before .before .before .before .before .matches .ensures, c .before .before .before .before .before .before .before .before .before .before .before .before .before .before .before .enum-told .given .1) (rw (← c .before .before .before .before .before .before .before .before .before .before .before .before .before .before .matches2 .ensures, c .before .before .before .before .before .before .before .before .before .before .before .before .enum-told2 .given .1, ← c .before .before .before .before .before .before .before .before .before .before .before .matches3 .ensures) (rw (c .before .before .before .before .before .before .before .before .before .i3 .given .1) (rw (c .before .before .before .before .before .at-token3 .ensures) at (c .before .before .before .before .let-stmt .ensures))))
+
+enum-told-3 : (t : ℕ) → declaration-lts.Need-enum-told-3 (claims t) (declaration-at t) declaration.Post
+enum-told-3 t c = search needs
+
+sub-stmt : (t : ℕ) → declaration-lts.Need-sub-stmt (claims t) (declaration-at t) declaration.Post
+sub-stmt t c = search needs
+
+stmt-requires : (t : ℕ) → declaration-lts.Need-stmt-requires (claims t) (declaration-at t) declaration.Post
+stmt-requires t c κs = omega (arith, c .before .before .before .before .before .before .before .before .before .before .before .before .before .before .before .pre)
+
+same-length-7 : (t : ℕ) → declaration-lts.Need-same-length-7 (claims t) (declaration-at t) declaration.Post
+same-length-7 t c = c .before .before .before .before .stmt .kept .1 .0
+
+same-length-8 : (t : ℕ) → declaration-lts.Need-same-length-8 (claims t) (declaration-at t) declaration.Post
+same-length-8 t c = c .before .before .before .before .stmt .kept .1 .1 .0
+
+returns-5 : (t : ℕ) → declaration-lts.Need-returns-5 (claims t) (declaration-at t) declaration.Post
+unfolding run body declaration
+returns-5 t c =
+    let z = lower-step (c .before .before .before .before .before .before .before .before .before .before .before .before .before .before .before .before .before .before .before .before .args .tokens .now) (c .before .before .before .before .before .before .before .before .before .before .before .before .before .before .before .before .before .before .before .before .args .levels) Declaration (c .before .before .before .before .before .before .before .before .before .before .before .before .before .before .before .before .before .before .before .before .args .p) (c .before .before .before .before .before .before .before .before .before .before .before .before .before .before .before .before .before .before .before .before .args .errors .now) (c .before .before .before .before .before .before .before .before .before .before .before .before .before .before .before .before .before .before .before .before .args .nodes .now) (c .before .before .before .before .before .before .before .before .before .before .before .before .before .before .before .before .if1 .left) in
+    rw (z, ← c .before .before .before .before .before .before .before .before .before .before .before .before .before .before .before .matches .ensures, c .before .before .before .before .before .before .before .before .before .before .before .before .before .enum-told .given .1) (rw (← c .before .before .before .before .before .before .before .before .before .before .before .before .matches2 .ensures, c .before .before .before .before .before .before .before .before .before .before .enum-told2 .given .1, ← c .before .before .before .before .before .before .before .before .before .matches3 .ensures) (rw (c .before .before .before .before .before .before .before .enum-told3 .given .1, ← c .before .before .before .before .stmt .ensures)))
+
+pub declaration-ok : {M : Type 1} (t : ℕ) → declaration-lts.Closed (claims t) (declaration-at t) declaration.Post M
+declaration-ok t = declaration-lts.spec (claims t) (declaration-at t) declaration.Post
+    (stopped-requires t)
+    (returns t)
+    (matches-requires t)
+    (enum-known-i t)
+    (at-token-requires t)
+    (sub-class t)
+    (class-requires t)
+    (same-length t)
+    (same-length-2 t)
+    (returns-2 t)
+    (enum-told t)
+    (matches-requires-2 t)
+    (enum-known-i-2 t)
+    (at-token-requires-2 t)
+    (sub-fn-stmt t)
+    (fn-stmt-requires t)
+    (same-length-3 t)
+    (same-length-4 t)
+    (returns-3 t)
+    (enum-told-2 t)
+    (matches-requires-3 t)
+    (enum-known-i-3 t)
+    (at-token-requires-3 t)
+    (sub-let-stmt t)
+    (let-stmt-requires t)
+    (same-length-5 t)
+    (same-length-6 t)
+    (returns-4 t)
+    (enum-told-3 t)
+    (sub-stmt t)
+    (stmt-requires t)
+    (same-length-7 t)
+    (same-length-8 t)
+    (returns-5 t)

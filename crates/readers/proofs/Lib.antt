@@ -1,0 +1,9 @@
+pub mod Turns
+pub mod Steps
+pub mod NextKind
+pub mod Then
+pub mod Begins
+pub mod Prefix
+pub mod Else
+pub mod CallTurns
+pub mod Operators

@@ -1,0 +1,39 @@
+-- Scripts with what the original answers: how a case is tried on the definition.
+use Prim.Native.Nat.{ℕ, _+_, _*_}
+use Prim.Native.String.{String}
+use mathlib.Core.Bool.{cond}
+use mathlib.Core.List.{List, [], _∷_, _++_}
+use lib.Dec.{eqb}
+use lib.ListN.{replicate, take, drop}
+use Rattle.reader.specs.Reading.{Reading, reading}
+use Rattle.reader.proofs.Codes.{codes}
+
+-- a script, the rooms for tokens, errors and nodes, and the words that are kept
+pub data Case : Type 0 where
+  case : String → ℕ → ℕ → ℕ → List ℕ → Case
+
+-- the words that are not w
+abbrev pub others : ℕ → List ℕ → List ℕ
+others w [] = []
+others w (v ∷ vs) = cond (eqb v w) (others w vs) (v ∷ others w vs)
+
+-- the answer, the words of the kept errors and nodes, then what is not as it should be: past the kept errors any word that was changed, past the kept nodes any that is not 0
+abbrev pub kept : Reading → List ℕ
+kept r =
+    r .outcome ∷ r .tokenCount ∷ r .errorCount ∷ r .nodeCount ∷ r .first ∷
+    take (3 * r .errorCount) (r .errors) ++
+    take (9 * r .nodeCount) (r .nodes) ++
+    others 7 (drop (3 * r .errorCount) (r .errors)) ++
+    others 0 (drop (9 * r .nodeCount) (r .nodes))
+
+-- what the definition keeps, from tables of sevens with spare tails
+abbrev pub answer : Case → List ℕ
+answer (case s t e n ws) = kept (reading (codes s) (replicate (7 * t + 6) 7) (replicate (3 * e + 2) 7) (replicate (9 * n + 8) 7))
+
+-- what the original keeps
+abbrev pub expected : Case → List ℕ
+expected (case s t e n ws) = ws
+
+abbrev pub map : (Case → List ℕ) → List Case → List (List ℕ)
+map f [] = []
+map f (c ∷ cs) = f c ∷ map f cs

@@ -1,0 +1,91 @@
+-- The scripts that document 01 marks *, with what the original answers.
+use Prim.Native.Nat.{ℕ}
+use mathlib.Core.Path.{_≡_, refl}
+use mathlib.Core.List.{List, [], _∷_}
+use lib.Ieee.{div, ofInt, toBits}
+use Rattle.token.specs.Keyword.{keywordOf}
+use Rattle.text.specs.Text.{isText}
+use Rattle.records.specs.Table.{put, field, linked, zeroed}
+use Rattle.lexer.specs.Items.{signOf}
+use Rattle.lexer.specs.Lex.{lexed, lexedOf}
+use Rattle.parser.specs.Tokens.{kindAt, lineAt, after, skipFrom, skipLines, seenIf, checkAt, matchesAt}
+use Rattle.parser.specs.Tables.{pushNode, pushError, consumeAt, requireAt}
+use Rattle.parser.specs.Programs.{run, raised}
+use Rattle.parser.specs.Reading.{firstOf, blockFrom, block, expressionStmt, parametersFrom, parameters, functionBody, fnStmt, fnExpr, methodsFrom, class, letStmt, namesFrom, enhancedFor, classicFor, forLoop, tryCatch, elifsFrom, elseFrom, ifStmt, ret, brk, cont, whileStmt, statement, declaration, argumentsFrom, arguments, list, dictElementsFrom, dictionary, closed, access, superExpr, primary, finishCall, callFrom, call, unary, lookMany, binaryFrom, binary, assignment, body, lower}
+use Rattle.parser.specs.Whole.{topLevel, statements, parsed}
+use Rattle.reader.specs.Reading.{reading}
+use Rattle.scripts.proofs.Cases.{Case, case, map, answer, expected}
+
+abbrev cases : List Case
+cases =
+    case "" 1 0 0
+    (0 ∷ 1 ∷ 0 ∷ 0 ∷ 0 ∷ []) ∷
+    case "\n" 2 1 2
+    (0 ∷ 2 ∷ 1 ∷ 2 ∷ 2 ∷
+    4 ∷ 2 ∷ 0 ∷
+    17 ∷ 0 ∷ 0 ∷ 0 ∷ 0 ∷ 0 ∷ 0 ∷ 0 ∷ 0 ∷
+    30 ∷ 0 ∷ 0 ∷ 0 ∷ 1 ∷ 0 ∷ 0 ∷ 0 ∷ 0 ∷ []) ∷
+    case "\n\n" 3 0 2
+    (0 ∷ 3 ∷ 0 ∷ 2 ∷ 2 ∷
+    17 ∷ 0 ∷ 0 ∷ 0 ∷ 0 ∷ 0 ∷ 0 ∷ 0 ∷ 0 ∷
+    30 ∷ 0 ∷ 0 ∷ 0 ∷ 1 ∷ 0 ∷ 0 ∷ 0 ∷ 0 ∷ []) ∷
+    case "a\n\n" 4 1 4
+    (0 ∷ 4 ∷ 1 ∷ 4 ∷ 2 ∷
+    4 ∷ 3 ∷ 0 ∷
+    2 ∷ 1 ∷ 0 ∷ 0 ∷ 0 ∷ 0 ∷ 0 ∷ 0 ∷ 0 ∷
+    30 ∷ 1 ∷ 0 ∷ 0 ∷ 1 ∷ 0 ∷ 0 ∷ 0 ∷ 4 ∷
+    17 ∷ 0 ∷ 0 ∷ 0 ∷ 0 ∷ 0 ∷ 0 ∷ 0 ∷ 0 ∷
+    30 ∷ 0 ∷ 0 ∷ 0 ∷ 3 ∷ 0 ∷ 0 ∷ 0 ∷ 0 ∷ []) ∷
+    case "a1" 4 1 4
+    (0 ∷ 4 ∷ 1 ∷ 4 ∷ 2 ∷
+    4 ∷ 1 ∷ 0 ∷
+    2 ∷ 1 ∷ 0 ∷ 0 ∷ 0 ∷ 0 ∷ 0 ∷ 0 ∷ 0 ∷
+    30 ∷ 1 ∷ 0 ∷ 0 ∷ 1 ∷ 0 ∷ 0 ∷ 0 ∷ 4 ∷
+    13 ∷ 2 ∷ 0 ∷ 0 ∷ 0 ∷ 0 ∷ 0 ∷ 0 ∷ 0 ∷
+    30 ∷ 2 ∷ 0 ∷ 0 ∷ 3 ∷ 0 ∷ 0 ∷ 0 ∷ 0 ∷ []) ∷
+    case "2^3^2" 7 0 6
+    (0 ∷ 7 ∷ 0 ∷ 6 ∷ 6 ∷
+    13 ∷ 1 ∷ 0 ∷ 0 ∷ 0 ∷ 0 ∷ 0 ∷ 0 ∷ 0 ∷
+    13 ∷ 3 ∷ 0 ∷ 0 ∷ 0 ∷ 0 ∷ 0 ∷ 0 ∷ 0 ∷
+    7 ∷ 2 ∷ 0 ∷ 0 ∷ 1 ∷ 2 ∷ 0 ∷ 0 ∷ 0 ∷
+    13 ∷ 5 ∷ 0 ∷ 0 ∷ 0 ∷ 0 ∷ 0 ∷ 0 ∷ 0 ∷
+    7 ∷ 4 ∷ 0 ∷ 0 ∷ 3 ∷ 4 ∷ 0 ∷ 0 ∷ 0 ∷
+    30 ∷ 5 ∷ 0 ∷ 0 ∷ 5 ∷ 0 ∷ 0 ∷ 0 ∷ 0 ∷ []) ∷
+    case "-2^2" 6 0 5
+    (0 ∷ 6 ∷ 0 ∷ 5 ∷ 5 ∷
+    13 ∷ 2 ∷ 0 ∷ 0 ∷ 0 ∷ 0 ∷ 0 ∷ 0 ∷ 0 ∷
+    16 ∷ 1 ∷ 0 ∷ 0 ∷ 1 ∷ 0 ∷ 0 ∷ 0 ∷ 0 ∷
+    13 ∷ 4 ∷ 0 ∷ 0 ∷ 0 ∷ 0 ∷ 0 ∷ 0 ∷ 0 ∷
+    7 ∷ 3 ∷ 0 ∷ 0 ∷ 2 ∷ 3 ∷ 0 ∷ 0 ∷ 0 ∷
+    30 ∷ 4 ∷ 0 ∷ 0 ∷ 4 ∷ 0 ∷ 0 ∷ 0 ∷ 0 ∷ []) ∷
+    case "a\n(b)" 7 0 4
+    (0 ∷ 7 ∷ 0 ∷ 4 ∷ 4 ∷
+    2 ∷ 1 ∷ 0 ∷ 0 ∷ 0 ∷ 0 ∷ 0 ∷ 0 ∷ 0 ∷
+    2 ∷ 4 ∷ 0 ∷ 0 ∷ 0 ∷ 0 ∷ 0 ∷ 0 ∷ 0 ∷
+    8 ∷ 5 ∷ 0 ∷ 0 ∷ 1 ∷ 2 ∷ 0 ∷ 0 ∷ 0 ∷
+    30 ∷ 5 ∷ 0 ∷ 0 ∷ 3 ∷ 0 ∷ 0 ∷ 0 ∷ 0 ∷ []) ∷
+    case "1.5" 0 0 0
+    (2 ∷ 0 ∷ 0 ∷ 0 ∷ 0 ∷ []) ∷
+    case "1.5\n" 3 0 2
+    (0 ∷ 3 ∷ 0 ∷ 2 ∷ 2 ∷
+    13 ∷ 1 ∷ 0 ∷ 0 ∷ 0 ∷ 0 ∷ 0 ∷ 0 ∷ 0 ∷
+    30 ∷ 1 ∷ 0 ∷ 0 ∷ 1 ∷ 0 ∷ 0 ∷ 0 ∷ 0 ∷ []) ∷
+    case "{return}" 5 1 10
+    (1 ∷ 5 ∷ 1 ∷ 0 ∷ 0 ∷
+    28 ∷ 1 ∷ 0 ∷ []) ∷
+    case "1=2" 5 1 10
+    (1 ∷ 5 ∷ 1 ∷ 0 ∷ 0 ∷
+    23 ∷ 1 ∷ 0 ∷ []) ∷
+    case "break" 3 1 1
+    (0 ∷ 3 ∷ 1 ∷ 1 ∷ 1 ∷
+    19 ∷ 1 ∷ 0 ∷
+    28 ∷ 1 ∷ 0 ∷ 0 ∷ 0 ∷ 0 ∷ 0 ∷ 0 ∷ 0 ∷ []) ∷
+    case "\"\\q\"" 1 2 0
+    (0 ∷ 1 ∷ 2 ∷ 0 ∷ 0 ∷
+    3 ∷ 1 ∷ 0 ∷
+    3 ∷ 1 ∷ 3 ∷ []) ∷
+    []
+
+agree : map answer cases ≡ map expected cases
+unfolding reading lexedOf lexed isText keywordOf signOf div ofInt toBits put field linked zeroed kindAt lineAt after skipFrom skipLines seenIf checkAt matchesAt pushNode pushError consumeAt requireAt run raised firstOf blockFrom block expressionStmt parametersFrom parameters functionBody fnStmt fnExpr methodsFrom class letStmt namesFrom enhancedFor classicFor forLoop tryCatch elifsFrom elseFrom ifStmt ret brk cont whileStmt statement declaration argumentsFrom arguments list dictElementsFrom dictionary closed access superExpr primary finishCall callFrom call unary lookMany binaryFrom binary assignment body lower topLevel statements parsed
+agree = refl

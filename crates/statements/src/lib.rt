@@ -1,0 +1,73 @@
+// `parse`: the top-level statements, what is kept, and the answer.
+ghost use mathlib.Core.Path.{_≡_};
+ghost use Rattle.parser.specs.Tables.{read};
+ghost use Rattle.parser.specs.Whole.{topLevel, parsed, Parsing};
+use parser::Got;
+use parser::Out;
+use parser::Parsed;
+use parser::Parser;
+use token::Token;
+
+// `parse`: the top-level statements; each is finished after its newline test.
+pub fn parse(tokens: &[u32], errors: &mut [u32], nodes: &mut [u32], recorded: u32) -> Parsed
+    ensures { λ r. ⌜ Parsing (parsed (now (tokens .entry)) recorded (now (errors .entry)) (now (nodes .entry))) r (now (errors .exit)) (now (nodes .exit)) ⌝ }
+{
+    let mut s = Parser {
+        current: 0,
+        errors: recorded,
+        nodes: 0,
+        loops: 0,
+    };
+    let mut first = 0;
+    let mut last = 0;
+    loop {
+        let kept = s.nodes;
+        if parser::is_at_end(tokens, s) {
+            records::zero_rest(nodes, kept);
+            return Parsed {
+                outcome: 0,
+                errors: s.errors,
+                nodes: kept,
+                first,
+            };
+        }
+        let g = top_level(tokens, errors, nodes, s);
+        let k = g.got;
+        let u = g.p;
+        match k {
+            Got::Stop(o) => {
+                records::zero_rest(nodes, kept);
+                return Parsed {
+                    outcome: o,
+                    errors: u.errors,
+                    nodes: kept,
+                    first,
+                };
+            }
+            Got::Node(n) => {
+                records::link(nodes, last, n.node);
+                first = parser::first_of(first, n.node);
+                last = n.node;
+                s = u;
+            }
+        }
+    }
+}
+
+fn top_level(tokens: &[u32], errors: &mut [u32], nodes: &mut [u32], p: Parser) -> Out
+    ensures { λ r. ⌜ read (r .p) (r .got) (now (errors .exit)) (now (nodes .exit)) ≡ topLevel (now (tokens .entry)) p (now (errors .entry)) (now (nodes .entry)) ⌝ }
+{
+    let g = readers::declaration(tokens, errors, nodes, p, 128);
+    let k = g.got;
+    let Got::Node(_) = k else {
+        return g;
+    };
+    let q = g.p;
+    let h = parser::consume(tokens, errors, q, Token::NEWLINE, 4);
+    let m = h.got;
+    let Got::Node(_) = m else {
+        return h;
+    };
+    let s = h.p;
+    Out { p: s, got: k }
+}

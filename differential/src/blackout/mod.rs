@@ -1,0 +1,232 @@
+//! Demand 3 by running: pairs of scripts that its premise permits are read alike, at every word,
+//! and what changes a reading is refused.
+//!
+//! `differential blackout COUNT SEED` tries random pairs on the original's whole reading and on the
+//! library's. `pairs` has a table of scripts that the Rattle definition is held against.
+
+pub mod change;
+pub mod pairs;
+pub mod premise;
+pub mod tables;
+
+use std::collections::BTreeMap;
+use std::fmt::{self, Write as _};
+
+use crate::dice::Dice;
+use crate::host::{Answer, Host, ReadCall, Request};
+use change::{any_first, broken, changed, exchanged};
+use premise::{permitted, Clause, CLAUSES};
+use readings::lexing::is_text;
+use tables::Tables;
+
+/// So many pairs are given to the library at a time.
+const BATCH: usize = 1000;
+
+/// What was tried.
+#[derive(Debug, Default)]
+pub struct Report {
+    /// Permitted pairs, and how many of them differ at all.
+    pub pairs: u64,
+    pub different: u64,
+    /// The bytes that differ in them.
+    pub bytes: u64,
+    /// How many pairs had each outcome, by the original's whole reading; `?` where it can't be
+    /// asked.
+    pub outcomes: BTreeMap<String, u64>,
+    /// The same for the library's, into equally large tables with other old contents.
+    pub library: BTreeMap<u32, u64>,
+    /// For each clause, how many pairs broke it, and how many of these were read differently.
+    pub refused: BTreeMap<Clause, [u64; 2]>,
+    /// Pairs with bytes exchanged anywhere: permitted ones, and refused ones that are read alike
+    /// and differently.
+    pub exchanged: [u64; 3],
+}
+
+impl fmt::Display for Report {
+    fn fmt(&self, f: &mut fmt::Formatter) -> fmt::Result {
+        let Report {
+            pairs,
+            different,
+            bytes,
+            ..
+        } = self;
+        writeln!(
+            f,
+            "{pairs} permitted pairs, {different} of them unequal, in {bytes} bytes; outcomes {:?}",
+            self.outcomes
+        )?;
+        writeln!(f, "library's reading, by outcome: {:?}", self.library)?;
+        for (clause, [tried, differently]) in &self.refused {
+            writeln!(
+                f,
+                "broken {clause:?}: {tried} refused, {differently} read differently"
+            )?;
+        }
+        let [yes, alike, differently] = self.exchanged;
+        writeln!(
+            f,
+            "bytes exchanged anywhere: {yes} permitted, {} refused, {differently} of these read differently",
+            alike + differently
+        )
+    }
+}
+
+/// Tries so many pairs, on the library too if there is a host; what went wrong, if anything did.
+pub fn blackout(mut host: Option<&mut Host>, count: usize, seed: u64) -> Result<Report, String> {
+    // The original reads by recursion.
+    oracle::on_large_stack(|| {
+        let mut dice = Dice::new(seed);
+        let mut texts = vectors::definition::texts(dice.word() | 1);
+        let mut report = Report::default();
+        let mut batch = vec![];
+        for _ in 0..count {
+            let first = loop {
+                // Damage may leave no text; then there is no permitted pair.
+                let script = any_first(&mut dice, &mut texts);
+                if is_text(&script) {
+                    break script;
+                }
+            };
+            let second = changed(&mut dice, &first);
+            report.permitted_pair(&first, &second)?;
+            report.refused_pair(&mut dice, &first, &second)?;
+            report.exchanged_pair(&mut dice, &first)?;
+            batch.push([first, second]);
+            if batch.len() == BATCH {
+                report.library(&mut host, &mut dice, &mut batch)?;
+            }
+        }
+        report.library(&mut host, &mut dice, &mut batch)?;
+        Ok(report)
+    })
+}
+
+impl Report {
+    /// The premise holds, and the original reads both alike.
+    fn permitted_pair(&mut self, first: &[u8], second: &[u8]) -> Result<(), String> {
+        if !permitted(first, second) {
+            return Err(told("a permitted change is refused", first, second));
+        }
+        let read = Tables::original(first);
+        if read.is_some() && read != Tables::original(second) {
+            return Err(told("a permitted pair is read differently", first, second));
+        }
+        let outcome = read.map_or("?".to_string(), |t| t.answer[0].to_string());
+        *self.outcomes.entry(outcome).or_default() += 1;
+        let bytes = first.iter().zip(second).filter(|(b, c)| b != c).count();
+        self.pairs += 1;
+        self.different += u64::from(bytes > 0);
+        self.bytes += bytes as u64;
+        Ok(())
+    }
+
+    /// A change that breaks a clause is refused.
+    fn refused_pair(&mut self, dice: &mut Dice, first: &[u8], second: &[u8]) -> Result<(), String> {
+        let clause = CLAUSES[dice.below(CLAUSES.len())];
+        let Some(script) = broken(dice, clause, first, second) else {
+            return Ok(());
+        };
+        if permitted(first, &script) {
+            let what = format!("a change that breaks {clause:?} is permitted");
+            return Err(told(&what, first, &script));
+        }
+        let counts = self.refused.entry(clause).or_default();
+        counts[0] += 1;
+        counts[1] += u64::from(reads_differently(first, &script));
+        Ok(())
+    }
+
+    /// Whatever changes the reading is refused.
+    fn exchanged_pair(&mut self, dice: &mut Dice, first: &[u8]) -> Result<(), String> {
+        let script = exchanged(dice, first);
+        let differently = reads_differently(first, &script);
+        let index = match (permitted(first, &script), differently) {
+            (true, true) => {
+                return Err(told("a permitted pair is read differently", first, &script))
+            }
+            (true, false) => 0,
+            (false, false) => 1,
+            (false, true) => 2,
+        };
+        self.exchanged[index] += 1;
+        Ok(())
+    }
+
+    /// The library reads both scripts of each pair into equally large tables, often too small,
+    /// that held something else before.
+    fn library(
+        &mut self,
+        host: &mut Option<&mut Host>,
+        dice: &mut Dice,
+        batch: &mut Vec<[Vec<u8>; 2]>,
+    ) -> Result<(), String> {
+        let batch = std::mem::take(batch);
+        let Some(host) = host else { return Ok(()) };
+        let (mut requests, mut fills) = (vec![], vec![]);
+        for pair in &batch {
+            let mut room = |most: usize| {
+                if dice.one_in(2) {
+                    most
+                } else {
+                    dice.below(most)
+                }
+            };
+            // As a rule enough for the tokens, so that what is read meets the ends of all tables.
+            let (tokens, errors) = (
+                room(pair[0].len() + 2).max(room(pair[0].len() + 2)),
+                room(8),
+            );
+            let nodes = room(2 * pair[0].len() + 2);
+            let token_words = 7 * tokens + dice.below(7);
+            let (error_words, node_words) = (3 * errors + dice.below(3), 9 * nodes + dice.below(9));
+            for bytes in pair {
+                let (behind, fill) = (dice.word() as u8, dice.word() as u32);
+                requests.push(Request::Source { bytes, behind });
+                requests.push(Request::Read(ReadCall {
+                    token_words,
+                    error_words,
+                    node_words,
+                    fill,
+                }));
+                fills.push(fill);
+            }
+        }
+        let mut readings = vec![];
+        host.ask(&requests, |_, answer| {
+            if let Answer::Read(reading) = answer {
+                readings.push(Tables::read(&reading, fills[readings.len()]));
+            }
+        })?;
+        for ([first, second], reading) in batch.iter().zip(readings.chunks_exact(2)) {
+            match reading {
+                [Ok(a), Ok(b)] if a == b => *self.library.entry(a.answer[0]).or_default() += 1,
+                [Ok(_), Ok(_)] => {
+                    return Err(told(
+                        "the library reads a permitted pair differently",
+                        first,
+                        second,
+                    ))
+                }
+                [Err(what), _] | [_, Err(what)] => return Err(told(what, first, second)),
+                _ => return Err("an answer is missing".to_string()),
+            }
+        }
+        Ok(())
+    }
+}
+
+/// Whether the original reads the two differently, as far as it can be asked.
+fn reads_differently(first: &[u8], second: &[u8]) -> bool {
+    match (Tables::original(first), Tables::original(second)) {
+        (Some(a), Some(b)) => a != b,
+        _ => false,
+    }
+}
+
+fn told(what: &str, first: &[u8], second: &[u8]) -> String {
+    let mut text = format!("{what}\n");
+    for script in [first, second] {
+        let _ = writeln!(text, "  \"{}\"", script.escape_ascii());
+    }
+    text
+}

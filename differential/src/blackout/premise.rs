@@ -1,0 +1,232 @@
+//! Demand 3's premise: what of a script may be blacked out, and to what.
+//!
+//! Written from the demand's words, and in another way than the Rattle definition: the first script
+//! is cut into pieces, and each is held against the same bytes of the second. Any one clause can be
+//! dropped, to show that it is needed.
+
+use crate::scripts::KEYWORDS;
+use readings::lexing::{is_text, LONGEST};
+
+/// The demand's clauses, in its order.
+#[derive(Debug, Clone, Copy, PartialEq, Eq, PartialOrd, Ord)]
+pub enum Clause {
+    /// "two scripts of equal length"
+    EqualLength,
+    /// "within the limit"
+    Limit,
+    /// "both passing the text test": the first
+    FirstText,
+    /// the second
+    SecondText,
+    /// "differs only in comments, in strings .. and in names"
+    Only,
+    /// "strings that the first closes properly"
+    ClosedProperly,
+    /// "Comments keep their #"
+    Hash,
+    /// "and gain no newline"
+    CommentNewline,
+    /// "In strings, the quotes .. stay as they are"
+    Quotes,
+    /// "the escapes": a backslash
+    Backslashes,
+    /// "and the one byte it takes"
+    EscapedBytes,
+    /// "and the newlines"
+    Newlines,
+    /// "no other quote .. appears"
+    NoQuote,
+    /// "no other .. backslash"
+    NoBackslash,
+    /// "no other .. newline"
+    NoNewline,
+    /// "A name becomes a name of the same length"
+    NameToName,
+    /// "neither is a keyword": the first's
+    WasKeyword,
+    /// the second's
+    BecomesKeyword,
+}
+
+pub const CLAUSES: [Clause; 18] = [
+    Clause::EqualLength,
+    Clause::Limit,
+    Clause::FirstText,
+    Clause::SecondText,
+    Clause::Only,
+    Clause::ClosedProperly,
+    Clause::Hash,
+    Clause::CommentNewline,
+    Clause::Quotes,
+    Clause::Backslashes,
+    Clause::EscapedBytes,
+    Clause::Newlines,
+    Clause::NoQuote,
+    Clause::NoBackslash,
+    Clause::NoNewline,
+    Clause::NameToName,
+    Clause::WasKeyword,
+    Clause::BecomesKeyword,
+];
+
+/// Whether the second is a script that the demand speaks of beside the first.
+pub fn permitted(first: &[u8], second: &[u8]) -> bool {
+    permitted_but(None, first, second)
+}
+
+/// The same with one clause dropped.
+pub fn permitted_but(dropped: Option<Clause>, first: &[u8], second: &[u8]) -> bool {
+    let test = Test { dropped };
+    test.holds(Clause::EqualLength, first.len() == second.len())
+        && test.holds(Clause::Limit, first.len() <= LONGEST)
+        && test.holds(Clause::FirstText, is_text(first))
+        && test.holds(Clause::SecondText, is_text(second))
+        && test.differs_only(first, second)
+}
+
+/// What a part of a script is.
+#[derive(Debug, Clone, Copy, PartialEq, Eq)]
+pub enum Kind {
+    /// From its # up to the newline.
+    Comment,
+    /// From quote to quote.
+    String,
+    /// A string that isn't closed: up to its end, or to the byte behind a wrong backslash.
+    Broken,
+    Name,
+    Keyword,
+    /// Any other byte.
+    Other,
+}
+
+/// A part of a script: what it is, and its bytes' places.
+#[derive(Debug, Clone, Copy)]
+pub struct Piece {
+    pub kind: Kind,
+    pub start: usize,
+    pub end: usize,
+}
+
+/// A script's pieces in order; together they have all of its bytes.
+pub fn pieces(script: &[u8]) -> Vec<Piece> {
+    cut(script, true)
+}
+
+/// The same; where strings needn't be proper, one goes on behind a wrong escape, and to the
+/// script's end if no quote closes it.
+fn cut(script: &[u8], proper: bool) -> Vec<Piece> {
+    let (mut pieces, mut start) = (vec![], 0);
+    while start < script.len() {
+        let run = |test: fn(u8) -> bool| script[start..].iter().take_while(|b| test(**b)).count();
+        let (kind, size) = match script[start] {
+            b'#' => (Kind::Comment, run(|b| b != b'\n')),
+            b'"' => string(&script[start..], proper),
+            b if is_letter(b) => {
+                let size = run(is_letter);
+                let keyword = is_keyword(&script[start..start + size]);
+                (if keyword { Kind::Keyword } else { Kind::Name }, size)
+            }
+            _ => (Kind::Other, 1),
+        };
+        let end = start + size;
+        pieces.push(Piece { kind, start, end });
+        start = end;
+    }
+    pieces
+}
+
+/// What begins with this quote, and its size.
+fn string(bytes: &[u8], proper: bool) -> (Kind, usize) {
+    let mut at = 1;
+    while at < bytes.len() {
+        match bytes[at] {
+            b'"' => return (Kind::String, at + 1),
+            b'\\' => {
+                let known = bytes.get(at + 1).is_some_and(|b| b"nrt\\\"".contains(b));
+                at += 2;
+                if proper && !known {
+                    return (Kind::Broken, at.min(bytes.len()));
+                }
+            }
+            _ => at += 1,
+        }
+    }
+    let kind = if proper { Kind::Broken } else { Kind::String };
+    (kind, bytes.len())
+}
+
+pub fn is_letter(byte: u8) -> bool {
+    byte.is_ascii_alphabetic() || byte == b'_'
+}
+
+pub fn is_keyword(name: &[u8]) -> bool {
+    KEYWORDS.iter().any(|keyword| keyword.as_bytes() == name)
+}
+
+/// The premise with at most one clause dropped.
+struct Test {
+    dropped: Option<Clause>,
+}
+
+impl Test {
+    fn drops(&self, clause: Clause) -> bool {
+        self.dropped == Some(clause)
+    }
+
+    fn holds(&self, clause: Clause, test: bool) -> bool {
+        test || self.drops(clause)
+    }
+
+    /// Piece by piece, as far as both scripts go.
+    fn differs_only(&self, first: &[u8], second: &[u8]) -> bool {
+        let pieces = cut(first, !self.drops(Clause::ClosedProperly));
+        pieces.iter().all(|piece| {
+            let end = piece.end.min(second.len());
+            let Some(new) = second.get(piece.start..end) else {
+                return true;
+            };
+            self.may_become(piece.kind, &first[piece.start..], new)
+        })
+    }
+
+    /// Whether a piece of the first, whose bytes the old ones begin with, may become the new bytes.
+    fn may_become(&self, kind: Kind, old: &[u8], new: &[u8]) -> bool {
+        let same = old.starts_with(new);
+        match kind {
+            Kind::Comment => {
+                self.holds(Clause::Hash, new.starts_with(b"#"))
+                    && self.holds(Clause::CommentNewline, !new.contains(&b'\n'))
+            }
+            Kind::String => self.string_may_become(old, new),
+            Kind::Name => self.is_name(new),
+            Kind::Keyword => same || (self.drops(Clause::WasKeyword) && self.is_name(new)),
+            Kind::Broken | Kind::Other => self.holds(Clause::Only, same),
+        }
+    }
+
+    fn is_name(&self, new: &[u8]) -> bool {
+        self.holds(Clause::NameToName, new.iter().all(|b| is_letter(*b)))
+            && self.holds(Clause::BecomesKeyword, !is_keyword(new))
+    }
+
+    fn string_may_become(&self, old: &[u8], new: &[u8]) -> bool {
+        let mut taken = false;
+        old.iter().zip(new).all(|(&b, &c)| {
+            if taken {
+                taken = false;
+                return self.holds(Clause::EscapedBytes, b == c);
+            }
+            taken = b == b'\\';
+            match b {
+                b'"' => self.holds(Clause::Quotes, b == c),
+                b'\\' => self.holds(Clause::Backslashes, b == c),
+                b'\n' => self.holds(Clause::Newlines, b == c),
+                _ => {
+                    self.holds(Clause::NoQuote, c != b'"')
+                        && self.holds(Clause::NoBackslash, c != b'\\')
+                        && self.holds(Clause::NoNewline, c != b'\n')
+                }
+            }
+        })
+    }
+}

@@ -1,0 +1,295 @@
+//! Whole readings at their limits: rooms, levels, counts and lengths.
+
+use oracle::logged::LEVELS;
+use readings::lexing::LONGEST;
+use readings::scripts::{
+    around, many, LEFT_OF_EQUAL, MESSAGES, MORE_WAYS, NEWLINES, SMALL, STARS, UNSTARRED, WAYS,
+    WORKED,
+};
+
+use crate::compare::Trial;
+use crate::scripts::{KEYWORDS, MARKS, WRONG};
+use crate::whole::Tried;
+
+/// So many pairs of error and node rooms are all tried; of more, some.
+const PAIRS: usize = 120;
+
+/// Readings with each room from none to one more than is needed, the others being enough; with
+/// error room and node room short together; and with no tables at all.
+pub fn rooms(source: &[u8]) -> Trial {
+    let mut tried = Tried::new(source);
+    let enough = tried.needs().map(|room| room + 1);
+    for table in 0..3 {
+        for room in 0..=enough[table] {
+            let mut rooms = enough;
+            rooms[table] = room;
+            tried.read(rooms);
+        }
+    }
+    let pairs = (enough[1] + 1) * (enough[2] + 1);
+    for pair in 0..pairs.min(PAIRS) {
+        let pair = if pairs <= PAIRS {
+            pair
+        } else {
+            tried.below(pairs)
+        };
+        tried.read([enough[0], pair % (enough[1] + 1), pair / (enough[1] + 1)]);
+    }
+    for _ in 0..4 {
+        let rooms = enough.map(|room| tried.below(room + 1));
+        tried.read(rooms);
+    }
+    tried.read_with([0; 3], [0; 3]);
+    tried.read_with([0; 3], [6, 2, 8]);
+    tried.trial()
+}
+
+/// The same for long scripts: each room one less than is needed, exact and one more, in all
+/// combinations.
+pub fn edges(source: &[u8]) -> Trial {
+    let mut tried = Tried::new(source);
+    let needs = tried.needs();
+    for choice in 0..27 {
+        let shift = [choice % 3, choice / 3 % 3, choice / 9];
+        let rooms = [0, 1, 2].map(|table| (needs[table] + shift[table]).saturating_sub(1));
+        tried.read(rooms);
+    }
+    tried.read_with([0; 3], [0; 3]);
+    tried.trial()
+}
+
+/// The same for very long scripts, and for very many: exact rooms, one less of each, and none.
+pub fn exact(source: &[u8]) -> Trial {
+    let mut tried = Tried::new(source);
+    let needs = tried.needs();
+    tried.read(needs);
+    for table in 0..3 {
+        let mut rooms = needs;
+        rooms[table] = rooms[table].saturating_sub(1);
+        tried.read(rooms);
+    }
+    tried.read_with([0; 3], [0; 3]);
+    tried.trial()
+}
+
+/// The scripts of document 01, and those that the definition is tried on.
+pub fn listed() -> impl Iterator<Item = Vec<u8>> {
+    let plain = [STARS, UNSTARRED, WORKED, MESSAGES, NEWLINES, LEFT_OF_EQUAL];
+    let plain = plain.into_iter().flatten().map(|text| text.to_string());
+    let small = SMALL.iter().map(|(text, ..)| text.to_string());
+    // A character stands for a byte there.
+    plain
+        .chain(small)
+        .map(|text| text.chars().map(|c| c as u8).collect())
+}
+
+/// Parameters and arguments about their limits, in all places that have them.
+pub fn counts() -> impl Iterator<Item = Vec<u8>> {
+    let places = [
+        ("fn f(", ") a"),
+        ("fn f(", ",) a"),
+        ("let f = fn(", ") a"),
+        ("let f = fn(", ",) a"),
+        ("class A { f(", ") a }"),
+        ("class A { class f(", ") a }"),
+        ("f(", ")"),
+        ("f(", ",)"),
+        ("f(", ",a"),
+        ("super(", ")"),
+        ("f(\n", "\n,\n)"),
+        ("[", "]"),
+        ("[", ",]"),
+        ("for ", " in b c"),
+    ];
+    places.into_iter().flat_map(|(open, close)| {
+        (253..260).map(move |count| format!("{open}{}{close}", many(count)).into_bytes())
+    })
+}
+
+/// Ways to open levels, beside those that the definition is tried on: what opens, what stands
+/// inside, what closes.
+const OTHER_WAYS: &[(&str, &str, &str)] = &[
+    ("a[1:", "1", "]"),
+    ("a[:", "1", "]"),
+    ("a[1:2:", "3", "]"),
+    ("a[::", "3", "]"),
+    ("a=[", "", "]"),
+    ("a={b:", "1", "}"),
+    ("a={", "1", ":2}"),
+    ("a.b=", "1", ""),
+    ("a[1]=", "1", ""),
+    ("(-", "a", ")"),
+    ("not -", "a", ""),
+    ("-(", "a", ")"),
+    ("a+(", "a", ")"),
+    ("-(a^", "a", ")"),
+    ("(fn() { let a = ", "1", "})"),
+    ("a = fn() ", "a", ""),
+    ("(fn() { return ", "a", "})"),
+    ("(fn() {", "", "})"),
+    ("(fn() (", "a", "))"),
+    ("class A { f() {", "", "}}"),
+    ("class A { class f() {", "", "}}"),
+    ("class A { f() (fn() {", "", "}) }"),
+    ("for ;a;b ", "c", ""),
+    ("for let i = 0; a; b {", "", "}"),
+    ("for a in fn() {", "", "} c"),
+    ("for a in b {", "", "}"),
+    ("while fn() {", "", "} b"),
+    ("while a {", "", "}"),
+    ("if fn() {", "", "} {}"),
+    ("if a {} elif b {", "", "}"),
+    ("if a {} elif fn() {", "", "} {}"),
+    ("try ", "a", " catch b c"),
+    ("try {", "", "} catch a b"),
+    ("{return fn() {", "", "}}"),
+    ("{a ", "", "}"),
+    ("{\n", "", "\n}"),
+    ("(\n", "a", "\n)"),
+    ("f(a,", "a", ")"),
+    ("[a,", "", "]"),
+    ("a.b(", "", ")"),
+    ("super(", "", ")"),
+    ("a\n(", "b", ")"),
+    ("a\n[", "b", "]"),
+];
+
+fn ways() -> impl Iterator<Item = (&'static str, &'static str, &'static str)> {
+    let listed = WAYS.iter().chain(MORE_WAYS);
+    let listed = listed.map(|&(open, _, inner, close)| (open, inner, close));
+    listed.chain(OTHER_WAYS.iter().copied())
+}
+
+/// Each way with so many levels that the limit lies among them.
+pub fn levels() -> impl Iterator<Item = Vec<u8>> {
+    ways().flat_map(|(open, inner, close)| depths(open, inner, close))
+}
+
+/// One way at all depths about its limit: each time alone, then between other statements.
+fn depths(
+    open: &'static str,
+    inner: &'static str,
+    close: &'static str,
+) -> impl Iterator<Item = Vec<u8>> {
+    // A way opens one level to four.
+    let most = LEVELS as usize + 2;
+    (most / 4 - 3..=most).flat_map(move |count| {
+        let text = around(open, count, inner, close);
+        [format!("{text}\n"), format!("a\n!b c\n{text}\nd\n")].map(String::into_bytes)
+    })
+}
+
+/// Each way as deep as a script may be long, closed and open.
+pub fn deepest() -> impl Iterator<Item = Vec<u8>> {
+    ways().flat_map(|(open, inner, close)| {
+        let pair = open.len() + close.len();
+        let closed = around(open, (LONGEST - inner.len()) / pair, inner, close);
+        let opened = open.repeat(LONGEST / open.len());
+        [closed, opened].map(String::into_bytes)
+    })
+}
+
+/// What fills a script of the greatest length: every mark and keyword, what gives an error, and
+/// some that make long lists, long chains or many statements. Newlines alone are too much for the
+/// original.
+fn fillers() -> impl Iterator<Item = String> {
+    let others = "a|a |1 |1a|\"s\"|\"\"|a\n|a\n\n|a;|a,|a.|a.a|a(|a()|a[|a[1]|a=|a+|a*a+|a-|[]|{}|()|a:|-a|!a|a# b\n\
+        |let a\n|fn f() a\n|while a b\n|if a {}|return\n|for a in b c\n";
+    let marks = MARKS.into_iter().chain(WRONG).map(str::to_string);
+    let keywords = KEYWORDS.map(|keyword| format!("{keyword} "));
+    let others = others.split('|').map(str::to_string);
+    let all = marks.chain(keywords).chain(others);
+    all.filter(|unit| unit != "\n")
+}
+
+/// Scripts of the greatest length, each of one thing over and over.
+pub fn longest() -> impl Iterator<Item = Vec<u8>> {
+    fillers().map(|unit| {
+        let mut script = unit.repeat(LONGEST / unit.len());
+        script.extend(std::iter::repeat_n(' ', LONGEST - script.len()));
+        script.into_bytes()
+    })
+}
+
+/// Lists and chains of the greatest length: what comes before, over and over, behind.
+pub fn longest_lists() -> impl Iterator<Item = Vec<u8>> {
+    let parts = [
+        ("[", "a,", "]"),
+        ("a={", "a:a,", "}"),
+        ("{", "a ", "}"),
+        ("{", "a\n", "}"),
+        ("a", ".a", "=1"),
+        ("a", "[1]", "=1"),
+        ("a", "(a)", ""),
+        ("a", "+a", ""),
+        ("a", " or a", ""),
+        ("for ", "a,", "in b c"),
+        ("if a {}", "elif a {}", "else {}"),
+        ("class A {", "f()a ", "}"),
+        ("class A {", "class f()a f()a ", "}"),
+        ("fn f() {", "{} ", "}"),
+    ];
+    parts.into_iter().map(|(open, unit, close)| {
+        let count = (LONGEST - open.len() - close.len()) / unit.len();
+        [open, &unit.repeat(count), close].concat().into_bytes()
+    })
+}
+
+/// Newlines alone, and with something before or behind.
+pub fn newlines() -> impl Iterator<Item = Vec<u8>> {
+    // The original walks all newlines anew at each look, so that thousands take it seconds.
+    let counts = (0..30).chain([99, 100, 256]);
+    counts.flat_map(|count| {
+        let lines = "\n".repeat(count);
+        let scripts = [
+            lines.clone(),
+            format!("a{lines}"),
+            format!("{lines}a"),
+            format!("a{lines}b{lines}"),
+            format!("{{{lines}}}{lines}"),
+            format!("{lines})"),
+            format!("a{lines}(b)"),
+            format!("{lines}.b"),
+            format!("a ={lines}"),
+            format!("f({lines}a{lines},{lines}){lines}"),
+        ];
+        scripts.map(String::into_bytes)
+    })
+}
+
+/// Sources that are refused, or just not, in tables of any size: nothing may be touched.
+pub fn refusals(source: &[u8]) -> Trial {
+    let mut tried = Tried::new(source);
+    let needs = tried.needs();
+    let fewer = needs.map(|room| tried.below(room + 1));
+    for rooms in [needs, fewer, [0; 3]] {
+        tried.read(rooms);
+    }
+    tried.trial()
+}
+
+#[cfg(test)]
+mod tests {
+    use super::*;
+    use oracle::on_large_stack;
+    use readings::whole::Whole;
+
+    fn outcome(script: Vec<u8>) -> u32 {
+        let script = String::from_utf8(script).expect("ASCII");
+        on_large_stack(|| {
+            let whole = Whole::of(&script);
+            whole.within(whole.needs()).outcome
+        })
+    }
+
+    /// Each way is read up to some depth and no deeper, and both depths are among those tried.
+    #[test]
+    fn every_way_has_its_limit() {
+        for (open, inner, close) in ways() {
+            let scripts: Vec<_> = depths(open, inner, close).step_by(2).collect();
+            let read = scripts.partition_point(|script| outcome(script.clone()) != 8);
+            assert!((1..scripts.len()).contains(&read), "{open:?}");
+            assert_eq!(outcome(scripts[read - 1].clone()), 0, "{open:?}");
+        }
+    }
+}

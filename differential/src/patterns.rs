@@ -1,0 +1,121 @@
+//! Scripts that are too much for the original but follow a pattern: what it makes of short ones
+//! tells what long ones come to.
+
+use std::iter::repeat_n;
+
+use readings::lexing::{Lexing, LONGEST};
+use readings::scripts::around;
+use readings::whole::Answer;
+
+use crate::compare::Trial;
+use crate::whole::Tried;
+
+/// Newlines and nothing else: the original walks all of them anew at each look.
+pub fn newlines() -> impl Iterator<Item = Vec<u8>> {
+    [1_000, 4_095, LONGEST].into_iter().map(lines)
+}
+
+fn lines(count: usize) -> Vec<u8> {
+    repeat_n(b'\n', count).collect()
+}
+
+/// A Set whose object holds a Set, and so on: the original copies the object each time, so that
+/// each level doubles its memory.
+pub fn sets() -> impl Iterator<Item = Vec<u8>> {
+    [60, 100].into_iter().map(nested)
+}
+
+fn nested(count: usize) -> Vec<u8> {
+    around("(", count, "a", ".b[0]=1)").into_bytes()
+}
+
+pub fn read_newlines(source: &[u8]) -> Trial {
+    read(source, newlines_come_to(source))
+}
+
+pub fn read_sets(source: &[u8]) -> Trial {
+    read(source, sets_come_to(source))
+}
+
+/// A reading with just the room.
+fn read(source: &[u8], answer: Answer) -> Trial {
+    let mut tried = Tried::told(source, answer);
+    let rooms = tried.needs();
+    tried.read(rooms);
+    tried.trial()
+}
+
+/// The original's tokens, no errors and no nodes.
+fn lexed(source: &[u8]) -> Answer {
+    let script = std::str::from_utf8(source).expect("ASCII");
+    let (lexing, _) = Lexing::of(script);
+    Answer {
+        tokens: lexing.tokens,
+        ..Answer::default()
+    }
+}
+
+/// Each two newlines are an Empty statement; with one left over, its own newline is missing.
+fn newlines_come_to(source: &[u8]) -> Answer {
+    let mut answer = lexed(source);
+    let statements = source.len().div_ceil(2) as u32;
+    for n in 0..statements {
+        let (empty, number) = (2 * n + 1, 2 * n + 2);
+        let next = if n + 1 < statements { number + 2 } else { 0 };
+        answer.nodes.push([17, 0, 0, 0, 0, 0, 0, 0, 0]);
+        answer.nodes.push([30, 0, 0, 0, empty, 0, 0, 0, next]);
+    }
+    if source.len() % 2 == 1 {
+        answer.errors.push([4, source.len() as u32 + 1, 0]);
+    }
+    answer.first = if statements == 0 { 0 } else { 2 };
+    answer.statements = statements as usize;
+    answer
+}
+
+/// The name; for each level the Get, the index, the Access, the value, the Set, whose object is the
+/// node before the Get, and the brackets; the statement.
+fn sets_come_to(source: &[u8]) -> Answer {
+    let mut answer = lexed(source);
+    let levels = source.iter().filter(|&&byte| byte == b'(').count() as u32;
+    let nodes = &mut answer.nodes;
+    // References of the last token that was passed, and of the last node.
+    let (mut token, mut node) = (levels + 1, 1);
+    nodes.push([2, token, 0, 0, 0, 0, 0, 0, 0]);
+    for _ in 0..levels {
+        let (name, brace) = (token + 2, token + 3);
+        nodes.push([9, name, 0, 0, node, 0, 0, 0, 0]);
+        nodes.push([13, token + 4, 0, 0, 0, 0, 0, 0, 0]);
+        nodes.push([6, brace, 0, 0, node + 1, node + 2, 0, 0, 0]);
+        nodes.push([13, token + 7, 0, 0, 0, 0, 0, 0, 0]);
+        nodes.push([10, name, 0, 0, node, node + 4, node + 3, 0, 0]);
+        nodes.push([12, 0, 0, 0, node + 5, 0, 0, 0, 0]);
+        (token, node) = (token + 8, node + 6);
+    }
+    nodes.push([30, token, 0, 0, node, 0, 0, 0, 0]);
+    answer.first = node + 1;
+    answer.statements = 1;
+    answer
+}
+
+#[cfg(test)]
+mod tests {
+    use super::*;
+    use readings::whole::Whole;
+
+    /// What the original makes of a script.
+    fn original(source: &[u8]) -> Answer {
+        let whole = Whole::of(std::str::from_utf8(source).expect("ASCII"));
+        whole.within(whole.needs())
+    }
+
+    #[test]
+    fn short_ones_are_the_original_s() {
+        for count in 0..60 {
+            assert_eq!(newlines_come_to(&lines(count)), original(&lines(count)));
+        }
+        for count in 0..9 {
+            assert_eq!(sets_come_to(&nested(count)), original(&nested(count)));
+        }
+    }
+}

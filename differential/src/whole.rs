@@ -1,0 +1,280 @@
+//! Whole readings: the calls, what they must answer, and the comparison of the two.
+
+use std::fmt::Write as _;
+use std::rc::Rc;
+
+use readings::lexing::{Error, Token};
+use readings::nodes::Node;
+use readings::whole::{known, Answer, Known, Whole};
+
+use crate::compare::{table_differs, Call, Trial};
+use crate::dice::Dice;
+use crate::host::{ReadAnswer, ReadCall};
+
+/// What a reading must come to.
+#[derive(Debug, Clone)]
+pub enum Wanted {
+    /// The answer, and what the original makes of the script if it was asked.
+    Exact(Answer, Option<Rc<Whole>>),
+    /// A refusal that keeps nothing and leaves all tables as they were.
+    Refused(u32),
+    /// Any answer that keeps to its tables; the original can't be asked.
+    Open,
+}
+
+impl Wanted {
+    /// The outcome, for counting.
+    pub fn outcome(&self) -> String {
+        match self {
+            Wanted::Exact(answer, _) => answer.outcome.to_string(),
+            Wanted::Refused(outcome) => outcome.to_string(),
+            Wanted::Open => "?".to_string(),
+        }
+    }
+}
+
+/// A source of which readings are tried.
+pub struct Tried {
+    known: Kept,
+    dice: Dice,
+    trial: Trial,
+}
+
+/// What is known about it.
+enum Kept {
+    Read(Rc<Whole>),
+    Refused(u32),
+    Told(Answer),
+    Nothing,
+}
+
+impl Tried {
+    pub fn new(source: &[u8]) -> Tried {
+        let mut dice = Dice::of(source);
+        let trial = Trial::new(source, &mut dice);
+        let known = match known(source) {
+            Known::Read(whole) => Kept::Read(Rc::new(*whole)),
+            Known::Refused(outcome) => Kept::Refused(outcome),
+            Known::Nothing => Kept::Nothing,
+        };
+        Tried { known, dice, trial }
+    }
+
+    /// A source that the original isn't asked about, with the answer, which needs room enough.
+    pub fn told(source: &[u8], answer: Answer) -> Tried {
+        let mut dice = Dice::of(source);
+        Tried {
+            trial: Trial::new(source, &mut dice),
+            known: Kept::Told(answer),
+            dice,
+        }
+    }
+
+    /// The rooms that the reading needs; for what the original can't be asked, enough for any
+    /// script of that length.
+    pub fn needs(&self) -> [usize; 3] {
+        let length = self.trial.source.len();
+        match &self.known {
+            Kept::Read(whole) => whole.needs(),
+            Kept::Refused(_) => [2, 1, 2],
+            Kept::Told(answer) => [answer.tokens.len(), answer.errors.len(), answer.nodes.len()],
+            Kept::Nothing => [length + 2, 2 * length + 2, 2 * length + 2],
+        }
+    }
+
+    /// Adds a reading into tables with these rooms and spare tails of any length.
+    pub fn read(&mut self, rooms: [usize; 3]) {
+        let tails = [7, 3, 9].map(|width| self.dice.below(width));
+        self.read_with(rooms, tails);
+    }
+
+    /// The same with these spare tails, in words.
+    pub fn read_with(&mut self, rooms: [usize; 3], tails: [usize; 3]) {
+        let call = ReadCall {
+            token_words: 7 * rooms[0] + tails[0],
+            error_words: 3 * rooms[1] + tails[1],
+            node_words: 9 * rooms[2] + tails[2],
+            fill: self.dice.word() as u32,
+        };
+        let wanted = match &self.known {
+            Kept::Read(whole) => Wanted::Exact(whole.within(rooms), Some(whole.clone())),
+            Kept::Refused(outcome) => Wanted::Refused(*outcome),
+            Kept::Told(answer) => Wanted::Exact(answer.clone(), None),
+            Kept::Nothing => Wanted::Open,
+        };
+        self.trial.calls.push(Call::Read(call, wanted));
+    }
+
+    pub fn below(&mut self, limit: usize) -> usize {
+        self.dice.below(limit)
+    }
+
+    pub fn trial(self) -> Trial {
+        self.trial
+    }
+}
+
+/// One reading with room enough: sometimes exactly enough, sometimes with records to spare.
+pub fn reading(source: &[u8]) -> Trial {
+    let mut tried = Tried::new(source);
+    let rooms = tried.needs().map(|room| room + tried.below(3));
+    tried.read(rooms);
+    tried.trial()
+}
+
+/// Compares one answer; if it differs, a text that shows how.
+pub fn read_differs(call: &ReadCall, wanted: &Wanted, answer: &ReadAnswer) -> Option<String> {
+    let what = match wanted {
+        Wanted::Exact(expected, whole) => exact_differs(call, expected, whole.as_deref(), answer),
+        Wanted::Refused(outcome) => refused_differs(call, *outcome, answer),
+        Wanted::Open => open_differs(call, answer),
+    }?;
+    let mut text = format!("call: {call:?}\ndiffers: {what}\n");
+    if let Wanted::Exact(expected, _) = wanted {
+        show(&mut text, "expected", expected);
+    }
+    show(&mut text, "answered", &kept(answer));
+    Some(text)
+}
+
+fn exact_differs(
+    call: &ReadCall,
+    expected: &Answer,
+    whole: Option<&Whole>,
+    answer: &ReadAnswer,
+) -> Option<String> {
+    let counts = [
+        ("the outcome", answer.outcome, expected.outcome),
+        (
+            "the number of tokens",
+            answer.tokens,
+            count(&expected.tokens),
+        ),
+        (
+            "the number of errors",
+            answer.errors,
+            count(&expected.errors),
+        ),
+        ("the number of nodes", answer.nodes, count(&expected.nodes)),
+        ("the first statement", answer.first, expected.first),
+    ];
+    if let Some((name, ..)) = counts.iter().find(|(_, got, want)| got != want) {
+        return Some(name.to_string());
+    }
+    // The trees first: they owe nothing to the numbering that the words have in common.
+    let nodes = kept(answer).nodes;
+    let trees = |whole: &Whole| whole.tree_differs(&nodes, answer.first, expected.statements);
+    if let Some(what) = whole.and_then(trees) {
+        return Some(what);
+    }
+    words_differ(
+        answer,
+        [
+            (expected.tokens.as_flattened(), call.fill),
+            (expected.errors.as_flattened(), call.fill),
+            (expected.nodes.as_flattened(), 0),
+        ],
+    )
+}
+
+/// Each table begins with these words and holds one word behind them; the guards are intact.
+fn words_differ(answer: &ReadAnswer, wanted: [(&[u32], u32); 3]) -> Option<String> {
+    let tables = [
+        ("token", &answer.token_table, 7),
+        ("error", &answer.error_table, 3),
+        ("node", &answer.node_table, 9),
+    ];
+    for ((name, table, width), (words, behind)) in tables.into_iter().zip(wanted) {
+        if let Some(at) = table_differs(table, words, behind) {
+            let (word, record) = (at % width, at / width);
+            return Some(format!("the {name} table, word {word} of record {record}"));
+        }
+    }
+    (!answer.intact).then(|| "the guards round the tables".to_string())
+}
+
+fn refused_differs(call: &ReadCall, outcome: u32, answer: &ReadAnswer) -> Option<String> {
+    let ReadAnswer {
+        tokens,
+        errors,
+        nodes,
+        first,
+        ..
+    } = answer;
+    if answer.outcome != outcome {
+        Some(format!("the outcome, which must be {outcome}"))
+    } else if [tokens, errors, nodes, first] != [&0; 4] {
+        Some("the counts, which must be 0".to_string())
+    } else {
+        words_differ(answer, [(&[], call.fill); 3])
+    }
+}
+
+/// A source that the original can't read gets an answer, and its tables are kept to.
+fn open_differs(call: &ReadCall, answer: &ReadAnswer) -> Option<String> {
+    let behind = |table: &[u32], words: u32, fill| {
+        let rest = table.get(words as usize..);
+        rest.is_some_and(|rest| rest.iter().all(|&word| word == fill))
+    };
+    if matches!(answer.outcome, 3 | 4) || answer.outcome > 8 {
+        Some("the outcome".to_string())
+    } else if !behind(&answer.token_table, 7 * answer.tokens, call.fill) {
+        Some("the token table behind the records".to_string())
+    } else if !behind(&answer.error_table, 3 * answer.errors, call.fill) {
+        Some("the error table behind the records".to_string())
+    } else if !behind(&answer.node_table, 9 * answer.nodes, 0) {
+        Some("the node table behind the records".to_string())
+    } else {
+        (!answer.intact).then(|| "the guards round the tables".to_string())
+    }
+}
+
+fn count<T>(records: &[T]) -> u32 {
+    records.len() as u32
+}
+
+/// The records that the library says it has kept, as far as they are in the tables.
+fn kept(answer: &ReadAnswer) -> Answer {
+    let tokens: &[Token] = answer.token_table.as_chunks().0;
+    let errors: &[Error] = answer.error_table.as_chunks().0;
+    let nodes: &[Node] = answer.node_table.as_chunks().0;
+    Answer {
+        outcome: answer.outcome,
+        tokens: tokens
+            .iter()
+            .copied()
+            .take(answer.tokens as usize)
+            .collect(),
+        errors: errors
+            .iter()
+            .copied()
+            .take(answer.errors as usize)
+            .collect(),
+        nodes: nodes.iter().copied().take(answer.nodes as usize).collect(),
+        first: answer.first,
+        statements: 0,
+    }
+}
+
+/// One side in full.
+fn show(text: &mut String, side: &str, answer: &Answer) {
+    let Answer {
+        outcome,
+        tokens,
+        errors,
+        nodes,
+        first,
+        ..
+    } = answer;
+    let (t, e, n) = (tokens.len(), errors.len(), nodes.len());
+    let _ = writeln!(
+        text,
+        "{side}: outcome {outcome}, {t} tokens, {e} errors, {n} nodes, first statement {first}"
+    );
+    for [message, line, pos] in errors {
+        let _ = writeln!(text, "  error: message {message}, line {line}, pos {pos}");
+    }
+    for (index, node) in nodes.iter().enumerate() {
+        let _ = writeln!(text, "  node {}: {node:?}", index + 1);
+    }
+}

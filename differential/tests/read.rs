@@ -1,0 +1,40 @@
+//! A sample of the comparison of whole readings, for the gate.
+
+use differential::compare::Difference;
+use differential::run::Comparison;
+use differential::{longest_readings, readings_at_limits, readings_of_all_kinds, ReadSizes};
+use oracle::on_large_stack;
+
+const SEED: u64 = 1;
+
+type Part = fn(&mut Comparison, &ReadSizes, u64) -> Result<(), Difference>;
+
+/// The original's trees are as deep as the scripts.
+fn compare(part: Part) {
+    let outcome = on_large_stack(|| part(&mut Comparison::start(), &ReadSizes::sample(), SEED));
+    if let Err(difference) = outcome {
+        panic!("the library and the original differ\n{difference}");
+    }
+}
+
+#[test]
+fn scripts() {
+    compare(readings_of_all_kinds);
+}
+
+/// The listed scripts among them have every message and every kind of node.
+#[test]
+fn limits() {
+    compare(|comparison, sizes, seed| {
+        readings_at_limits(comparison, sizes, seed)?;
+        let [messages, kinds] = comparison.seen();
+        assert!(messages.into_iter().eq(1..=29));
+        assert!(kinds.into_iter().eq(1..=32));
+        Ok(())
+    });
+}
+
+#[test]
+fn longest() {
+    compare(longest_readings);
+}

@@ -1,0 +1,123 @@
+//! The original's parser with a log: when each node is finished, each error recorded, each
+//! top-level statement kept, and where a level too many would open. The original keeps no such
+//! order, but outcomes 6 to 8 of document 01 depend on it.
+//!
+//! `build.rs` makes it from the unchanged `parser.rs` by putting calls in. Whoever uses it compares
+//! its statements and errors with those of the unchanged one.
+
+use crate::ends;
+use crate::state::InterpreterError;
+use crate::stmt::Stmt;
+use crate::token::TokenData;
+
+/// As many levels may be open.
+pub const LEVELS: u32 = 128;
+
+/// Something that happens in a reading.
+#[derive(Debug, Clone, Copy, PartialEq, Eq)]
+pub enum Event {
+    /// A node of that kind is finished.
+    Node(u32),
+    /// An error is recorded.
+    Error,
+    /// A top-level statement is finished.
+    Statement,
+    /// A level over the limit opens: the log ends here.
+    Level,
+}
+
+/// A logged reading.
+#[derive(Debug, Clone)]
+pub struct Log {
+    pub events: Vec<Event>,
+    pub errors: Vec<InterpreterError>,
+    /// The statements that were finished.
+    pub stmts: Vec<Stmt>,
+    /// Whether it stopped after an error or a level too many.
+    pub stopped: bool,
+}
+
+/// Parses tokens.
+pub fn parse(tokens: Vec<TokenData>) -> Log {
+    let mut state = state::InterpreterState::new(tokens);
+    let ended = ends(
+        || parser::Parser::new(&mut state).parse(),
+        &[
+            "explicit panic",
+            "called `Option::unwrap()` on a `None`",
+            TOO_DEEP,
+        ],
+    );
+    Log {
+        events: state.events,
+        errors: state.errors,
+        stmts: state.stmts,
+        stopped: !ended,
+    }
+}
+
+const TOO_DEEP: &str = "a level over the limit";
+
+/// The state, with what the parser uses of the original's, and the log.
+mod state {
+    use super::{Event, LEVELS, TOO_DEEP};
+    pub use crate::state::InterpreterError;
+    use crate::stmt::Stmt;
+    use crate::token::TokenData;
+
+    pub struct InterpreterState {
+        pub tokens: Vec<TokenData>,
+        pub errors: Vec<InterpreterError>,
+        pub stmts: Vec<Stmt>,
+        pub events: Vec<Event>,
+        levels: u32,
+    }
+
+    impl InterpreterState {
+        pub fn new(tokens: Vec<TokenData>) -> Self {
+            InterpreterState {
+                tokens,
+                errors: vec![],
+                stmts: vec![],
+                events: vec![],
+                levels: 0,
+            }
+        }
+
+        pub fn set_error(&mut self, err: InterpreterError) {
+            self.errors.push(err);
+            self.events.push(Event::Error);
+        }
+
+        pub fn fatal_error(&mut self, err: InterpreterError) {
+            self.set_error(err);
+            panic!();
+        }
+
+        pub fn node(&mut self, kind: u32) {
+            self.events.push(Event::Node(kind));
+        }
+
+        pub fn keep(&mut self, stmt: Stmt) {
+            self.stmts.push(stmt);
+            self.events.push(Event::Statement);
+        }
+
+        pub fn open(&mut self) {
+            if self.levels == LEVELS {
+                self.events.push(Event::Level);
+                panic!("{TOO_DEEP}");
+            }
+            self.levels += 1;
+        }
+
+        pub fn close(&mut self) {
+            self.levels -= 1;
+        }
+    }
+}
+
+#[allow(warnings, clippy::all)]
+mod parser {
+    include!(concat!(env!("OUT_DIR"), "/logged_parser.rs"));
+}

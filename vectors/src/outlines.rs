@@ -1,0 +1,141 @@
+//! Outlines in document 01's form: what the program `outline` has to print for a script. Tokens,
+//! errors and nodes are the original's. Where a room of `outline` ends, a level too many opens or
+//! the script is no text, the outcome and what is kept follow document 01 and stand beside the
+//! script.
+
+use std::path::{Path, PathBuf};
+use std::{fs, iter};
+
+use oracle::on_large_stack;
+
+use crate::definition::{case, End, Script};
+use crate::lexing::judge::token_words;
+use crate::sheet::path;
+
+/// The most bytes that `outline` has room for, and its rooms for tokens, errors and nodes.
+const MOST_BYTES: usize = 4096;
+const ROOMS: [usize; 3] = [2048, 256, 1600];
+
+/// The outline of a script. `ends` is an outcome that the original doesn't know, with how many
+/// tokens, errors and top-level statements are kept.
+pub fn outline(source: &[u8], ends: Option<(u32, [usize; 3])>) -> String {
+    let head = |outcome| format!("o {outcome} 0 0 0 0\n");
+    if source.len() > MOST_BYTES {
+        return head(4);
+    }
+    if let Some((3, _)) = ends {
+        return head(3);
+    }
+    let script = Script {
+        text: source.iter().map(|b| char::from(*b)).collect(),
+        ends: ends.map(|(outcome, kept)| End {
+            outcome,
+            rooms: ROOMS,
+            kept,
+        }),
+    };
+    let words = on_large_stack(|| case(&script).words);
+    let &[_, tokens, errors, nodes, _] = &words[0][..] else {
+        panic!("an answer is five words");
+    };
+    let counts = [tokens, errors, nodes].map(|n| n as usize);
+    assert!(
+        iter::zip(counts, ROOMS).all(|(count, room)| count <= room),
+        "more than outline has room for"
+    );
+    let tokens = &on_large_stack(|| token_words(source))[..counts[0]];
+    let (errors, nodes) = words[1..].split_at(counts[1]);
+    let mut out = line('o', &words[0]);
+    out.extend(tokens.iter().map(|token| line('t', token)));
+    out.extend(errors.iter().map(|error| line('e', error)));
+    out.extend(nodes.iter().map(|node| line('n', node)));
+    out
+}
+
+fn line(letter: char, words: &[u32]) -> String {
+    let words: String = words.iter().map(|word| format!(" {word}")).collect();
+    format!("{letter}{words}\n")
+}
+
+/// A script of the program `outcomes`, with how it ends if the original doesn't know.
+pub struct Ending {
+    pub script: Vec<u8>,
+    pub ends: Option<(u32, [usize; 3])>,
+}
+
+/// The first scripts of the program `outcomes`, in the order in which it prints them: each outcome
+/// of document 01 under the rooms of `outline`, both ways to 6.
+pub fn endings() -> Vec<Ending> {
+    let known = |text: &str| Ending {
+        script: text.as_bytes().to_vec(),
+        ends: None,
+    };
+    let ending = |text: String, outcome, kept| Ending {
+        script: text.into_bytes(),
+        ends: Some((outcome, kept)),
+    };
+    let sum = vec!["a"; 801].join("+");
+    vec![
+        known("let stop = \"Salicional\"\nstop1\n"),
+        known("let stop = 8\n{return}\nlet pitch = 4\n"),
+        known("let stop = 8\nlet pitch = 2.66"),
+        Ending {
+            script: b"let stop = \"Salicional\xff\"\n".to_vec(),
+            ends: Some((3, [0; 3])),
+        },
+        known(&"a".repeat(4097)),
+        // 2,047 marks and the closing Newline; EOF finds no room.
+        ending("(".repeat(2047), 5, [2048, 0, 0]),
+        ending("$".repeat(257), 6, [0, 256, 0]),
+        ending("break\n".repeat(257), 6, [515, 256, 256]),
+        // 801 names and 800 sums behind a statement of two nodes.
+        ending(format!("a\n{sum}\n"), 7, [1605, 0, 1]),
+        ending(
+            format!("let a\n{}a{}\n", "(".repeat(127), ")".repeat(127)),
+            8,
+            [260, 0, 1],
+        ),
+        // The longest script, and the most brackets.
+        known(&format!(
+            "{}a{}\n#{}",
+            "(".repeat(126),
+            ")".repeat(126),
+            "s".repeat(3841)
+        )),
+    ]
+}
+
+/// The repository's example scripts, in the order of their names.
+pub fn examples() -> Vec<PathBuf> {
+    let folder = Path::new(env!("CARGO_MANIFEST_DIR")).join("../examples");
+    let mut scripts: Vec<PathBuf> = fs::read_dir(folder)
+        .expect("the folder is there")
+        .map(|entry| entry.expect("an entry").path())
+        .filter(|path| path.extension().is_some_and(|e| e == "gr"))
+        .collect();
+    scripts.sort();
+    scripts
+}
+
+/// All files that are made here: the examples' outlines, and what `outcomes` reads and prints. It
+/// is run on the examples too.
+pub fn files() -> Vec<(PathBuf, Vec<u8>)> {
+    let (mut files, mut scripts) = (vec![], endings());
+    for example in examples() {
+        let script = fs::read(&example).expect("the script is there");
+        let outline = outline(&script, None).into_bytes();
+        files.push((example.with_extension("outline"), outline));
+        scripts.push(Ending { script, ends: None });
+    }
+    let mut stdout = String::new();
+    assert!(scripts.len() <= 26, "a letter for each");
+    for (letter, ending) in ('a'..='z').zip(scripts) {
+        stdout += &outline(&ending.script, ending.ends);
+        files.push((
+            path("outcomes", &format!("data/{letter}.gr")),
+            ending.script,
+        ));
+    }
+    files.push((path("outcomes", "stdout"), stdout.into_bytes()));
+    files
+}

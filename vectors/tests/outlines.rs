@@ -1,0 +1,44 @@
+//! The stored outlines are those that the generator makes from the original's answers, and every
+//! outcome of document 01 occurs in them.
+
+use std::collections::BTreeSet;
+use std::fs;
+use vectors::outlines::{examples, files, outline};
+use vectors::sheet::path;
+
+#[test]
+fn stored_outlines_are_made_by_the_generator() {
+    for (file, bytes) in files() {
+        let name = file.display();
+        let stored = fs::read(&file).unwrap_or_else(|error| panic!("{name}: {error}"));
+        assert!(
+            stored == bytes,
+            "{name} differs: run `cargo run -p vectors -- outlines`"
+        );
+    }
+}
+
+#[test]
+fn every_outcome_occurs() {
+    let stdout = fs::read_to_string(path("outcomes", "stdout")).expect("the file is there");
+    let outcomes: BTreeSet<&str> = stdout
+        .lines()
+        .filter(|line| line.starts_with('o'))
+        .filter_map(|line| line.split(' ').nth(1))
+        .collect();
+    assert!(outcomes
+        .into_iter()
+        .eq(["0", "1", "2", "3", "4", "5", "6", "7", "8"]));
+}
+
+#[test]
+fn the_worked_example_of_document_01() {
+    let read = |file| fs::read(path("outline", file)).expect("the file is there");
+    assert_eq!(read("stdin"), b"a = 1\n");
+    assert_eq!(outline(b"a = 1\n", None).into_bytes(), read("stdout"));
+}
+
+#[test]
+fn there_are_examples() {
+    assert!(examples().len() >= 5);
+}
