@@ -48,5 +48,6 @@ if 'Author.Needs' not in out[0]: hdr+='use borrow.Author.Needs.{needs}\n'
 pre=[sec['pre'].strip('\n')] if sec['pre'].strip() else []
 out=[hdr+out[0]]+pre+out[1:pos]+lem+out[pos:]
 os.makedirs(f'{R}/crates/{crate}/proofs/{fn}',exist_ok=True)
-open(f'{R}/crates/{crate}/proofs/{fn}/Proof.antt','w').write('\n\n'.join(out)+'\n')
+head=f'-- `{crate}::{fn}` meets its contract. Assumes nothing.\n'
+open(f'{R}/crates/{crate}/proofs/{fn}/Proof.antt','w').write(head+'\n\n'.join(out)+'\n')
 print('wrote',fn)

@@ -1,3 +1,4 @@
+-- `readers::expression_stmt` meets its contract. Assumes nothing.
 use borrow.Author.Needs.{needs}
 use Rattle.readers.proofs.expression_stmt.Statement.{statement}
 use Rattle.readers.proofs.expression_stmt.Tie as tie

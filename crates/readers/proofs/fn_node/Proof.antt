@@ -1,3 +1,4 @@
+-- `readers::fn_node` meets its contract. Assumes nothing.
 use borrow.Author.Needs.{needs}
 use Rattle.readers.proofs.fn_node.Statement.{statement}
 use Rattle.readers.proofs.fn_node.Tie as tie

@@ -1,3 +1,4 @@
+-- `readers::if_node` meets its contract. Assumes nothing.
 use borrow.Author.Needs.{needs}
 use Rattle.readers.proofs.if_node.Statement.{statement}
 use Rattle.readers.proofs.if_node.Tie as tie

@@ -1,3 +1,4 @@
+-- `readers::list` meets its contract. Assumes nothing.
 use Rattle.parser.specs.Programs.{run}
 use borrow.Author.Needs.{needs}
 use Rattle.readers.proofs.list.Statement.{statement}

@@ -1,3 +1,4 @@
+-- `readers::names` meets its contract. Assumes nothing.
 use mathlib.Core.Path.{_≡_, refl, sym, ap, _∙_}
 use mathlib.Core.List.{List, []}
 use Prim.Native.Nat.{ℕ, suc, _-_, _≤_, _<_}

@@ -1,3 +1,4 @@
+-- `statements::top_level` meets its contract. Assumes nothing.
 use Rattle.parser.specs.Whole.{topLevel}
 use borrow.Author.Needs.{needs}
 use Rattle.statements.proofs.top_level.Statement.{statement}
