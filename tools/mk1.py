@@ -49,5 +49,5 @@ pre=[sec['pre'].strip('\n')] if sec['pre'].strip() else []
 out=[hdr+out[0]]+pre+out[1:pos]+lem+out[pos:]
 os.makedirs(f'{R}/crates/{crate}/proofs/{fn}',exist_ok=True)
 head=f'-- `{crate}::{fn}` meets its contract. Assumes nothing.\n'
-open(f'{R}/crates/{crate}/proofs/{fn}/Proof.antt','w').write(head+'\n\n'.join(out)+'\n')
+open(f'{R}/crates/{crate}/proofs/{fn}/Proof.antt','w').write(head+'\n\n'.join(out).lstrip('\n')+'\n')
 print('wrote',fn)

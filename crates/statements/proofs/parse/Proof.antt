@@ -17,9 +17,9 @@ use Rattle.statements.proofs.parse.Reads as reads
 use Rattle.statements.proofs.parse.Lts as lts
 use Rattle.parser.proofs.first_of.Reads as first-of-reads
 use Rattle.parser.proofs.is_at_end.Reads as is-at-end-reads
-use Rattle.statements.proofs.top_level.Reads as top-level-reads
 use Rattle.records.proofs.link.Reads as link-reads
 use Rattle.records.proofs.zero_rest.Reads as zero-rest-reads
+use Rattle.statements.proofs.top_level.Reads as top-level-reads
 
 -- the statements that are left are the rest of the whole, with fuel for a turn for each token that is left
 record ParseInv (T E₀ N₀ : List ℕ) (s₀ : Parser) (E N : List ℕ) (s : Parser) (first last : ℕ) : Type 0 where
