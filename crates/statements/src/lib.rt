@@ -54,7 +54,8 @@ pub fn parse(tokens: &[u32], errors: &mut [u32], nodes: &mut [u32], recorded: u3
     }
 }
 
-fn top_level(tokens: &[u32], errors: &mut [u32], nodes: &mut [u32], p: Parser) -> Out
+// A top-level statement and its newline test: what `parse` does at each turn, and a read of one statement once.
+pub fn top_level(tokens: &[u32], errors: &mut [u32], nodes: &mut [u32], p: Parser) -> Out
     ensures { λ r. ⌜ read (r .p) (r .got) (now (errors .exit)) (now (nodes .exit)) ≡ topLevel (now (tokens .entry)) p (now (errors .entry)) (now (nodes .entry)) ⌝ }
 {
     let g = readers::declaration(tokens, errors, nodes, p, 128);

@@ -1,0 +1,178 @@
+-- The cases of the two calls, in the form that the code's facts have. Assumes nothing.
+use mathlib.Core.Path.{_≡_, refl, sym, ap, _∙_}
+use mathlib.Core.Bool.{Bool, true, false, not, _&&_, _||_}
+use mathlib.Core.List.{List}
+use Prim.Native.Nat.{ℕ, zero, suc, _-_}
+use native.Mathlib.Omega.{arith}
+use lib.Dec.{eqb, leb, ltb}
+use borrow.Author.Tests.{eq-eqb, ne-eqb}
+use Rattle.records.specs.Table.{room, linked, tokenWidth, errorWidth, nodeWidth}
+use Rattle.lexer.specs.declared.Scanned.{Scanned}
+use Rattle.lexer.specs.Lex.{lexedOf, Lexing}
+use Rattle.parser.specs.declared.Parser as state
+use Rattle.parser.specs.declared.Found.{Found}
+use Rattle.parser.specs.declared.Got.{Got}
+use Rattle.parser.specs.declared.Got.the-variants.{Node, Stop}
+use Rattle.parser.specs.Tokens.{kindAt}
+use Rattle.parser.specs.Tables.{Read, read}
+use Rattle.parser.specs.Reading.{firstOf}
+use Rattle.parser.specs.Whole.{topLevel}
+use Rattle.pair.specs.declared.Parser.{Parser}
+use Rattle.pair.specs.declared.Stepped.{Stepped}
+use Rattle.pair.specs.Pair.{Called, left, leaving, markedAs, final, pickCall, restOf, fresh, begunAfter, begun, noEof, onlyEof, within, fitsIn, refusedAs, stateOf, behind, stoppedAt, afterOne, oneOf, readOf}
+
+-- the four parts of a call
+pub parts : (c d : Called) → c ≡ d → (c .stepped ≡ d .stepped) × (c .tokens ≡ d .tokens) × (c .errors ≡ d .errors) × (c .nodes ≡ d .nodes)
+parts c d e = (ap (λ (x : Called). x .stepped) e, ap (λ (x : Called). x .tokens) e, ap (λ (x : Called). x .errors) e, ap (λ (x : Called). x .nodes) e)
+
+-- ---- at a token
+module _ (T : List ℕ) (p : Parser) (E N : List ℕ) (k : ℕ) (is : k ≡ kindAt T (p .current)) where
+  at-eof : k ≡ 0 → eqb (kindAt T (p .current)) 0 ≡ true
+  at-eof z = ap (λ (i : ℕ). eqb i 0) (sym is) ∙ eq-eqb k 0 z
+
+  before-eof : (k ≡ 0 → ⊥) → eqb (kindAt T (p .current)) 0 ≡ false
+  before-eof z = ap (λ (i : ℕ). eqb i 0) (sym is) ∙ ne-eqb k 0 z
+
+  -- nothing is left to be read
+  pub rest-ends : k ≡ 0 → restOf T p E N ≡ final 0 p T E N
+  unfolding restOf
+  rest-ends z = ap (λ (b : Bool). pickCall b (λ _. final 0 p T E N) λ _. left (leaving (markedAs 0 19 p)) T E N) (at-eof z)
+
+  -- a token before EOF is left
+  pub rest-stays : (k ≡ 0 → ⊥) → restOf T p E N ≡ left (leaving (markedAs 0 19 p)) T E N
+  unfolding restOf
+  rest-stays z = ap (λ (b : Bool). pickCall b (λ _. final 0 p T E N) λ _. left (leaving (markedAs 0 19 p)) T E N) (before-eof z)
+
+  -- there is no statement at EOF
+  pub one-ends : k ≡ 0 → oneOf T p E N ≡ final 0 p T E N
+  unfolding oneOf
+  one-ends z = ap (λ (b : Bool). pickCall b (λ _. final 0 p T E N) λ _. afterOne T p (topLevel T (stateOf p) E N)) (at-eof z)
+
+  module _ (z : k ≡ 0 → ⊥) (q : state.Parser) (g : Got) (E′ N′ : List ℕ) (e : read q g E′ N′ ≡ topLevel T (stateOf p) E N) where
+    -- a statement was read, and what came of it decides
+    one-came : oneOf T p E N ≡ afterOne T p (read q g E′ N′)
+    unfolding oneOf
+    one-came = ap (λ (b : Bool). pickCall b (λ _. final 0 p T E N) λ _. afterOne T p (topLevel T (stateOf p) E N)) (before-eof z) ∙ ap (λ (r : Read). afterOne T p r) (sym e)
+
+    -- it stopped the reading
+    pub one-stops : (o : ℕ) → g ≡ Stop o → oneOf T p E N ≡ final o (stoppedAt p (q .errors)) T E′ N′
+    one-stops o s = one-came ∙ ap (λ (g : Got). afterOne T p (read q g E′ N′)) s
+
+    -- it is linked behind the last one
+    pub one-more : (n : Found) → g ≡ Node n → oneOf T p E N ≡ restOf T (behind p q (n .node)) E′ (linked N′ (p .last) (n .node))
+    one-more n s = one-came ∙ ap (λ (g : Got). afterOne T p (read q g E′ N′)) s
+
+    -- the same with what the code has for the first statement and the nodes
+    pub one-linked : (n : Found) → g ≡ Node n → (f : ℕ) → f ≡ firstOf (p .first) (n .node) → (N″ : List ℕ) → N″ ≡ linked N′ (p .last) (n .node)
+        → restOf T (record { current = q .current; loops = q .loops; tokens = p .tokens; errors = q .errors; nodes = q .nodes; first = f; last = n .node; ended = 0; outcome = 19 }) E′ N″ ≡ oneOf T p E N
+    one-linked n s f h N″ l =
+        (λ i. restOf T (record { current = q .current; loops = q .loops; tokens = p .tokens; errors = q .errors; nodes = q .nodes; first = h i; last = n .node; ended = 0; outcome = 19 }) E′ (l i)) ∙ sym (one-more n s)
+
+-- ---- after lexing
+module _ (o a b : ℕ) (T E N : List ℕ) where
+  -- the end was reached
+  pub begun-reads : o ≡ 0 → begunAfter o a b T E N ≡ restOf T (fresh a b) E N
+  begun-reads z =
+      ap (λ (x : Bool). pickCall x (λ _. restOf T (fresh a b) E N) λ _. pickCall (eqb o 3 || eqb o 4) (λ _. left (leaving (markedAs 1 o (fresh a b))) T E N) λ _. final o (fresh a b) T E N) (eq-eqb o 0 z)
+
+  begun-refused : (o ≡ 0 → ⊥) → begunAfter o a b T E N ≡ pickCall (eqb o 3 || eqb o 4) (λ _. left (leaving (markedAs 1 o (fresh a b))) T E N) λ _. final o (fresh a b) T E N
+  begun-refused z =
+      ap (λ (x : Bool). pickCall x (λ _. restOf T (fresh a b) E N) λ _. pickCall (eqb o 3 || eqb o 4) (λ _. left (leaving (markedAs 1 o (fresh a b))) T E N) λ _. final o (fresh a b) T E N) (ne-eqb o 0 z)
+
+  -- after 3 and 4
+  pub begun-leaves : (o ≡ 0 → ⊥) → eqb o 3 || eqb o 4 ≡ true → begunAfter o a b T E N ≡ left (leaving (markedAs 1 o (fresh a b))) T E N
+  begun-leaves z u = begun-refused z ∙ ap (λ (x : Bool). pickCall x (λ _. left (leaving (markedAs 1 o (fresh a b))) T E N) λ _. final o (fresh a b) T E N) u
+
+  -- after any other
+  pub begun-clears : (o ≡ 0 → ⊥) → eqb o 3 || eqb o 4 ≡ false → begunAfter o a b T E N ≡ final o (fresh a b) T E N
+  begun-clears z u = begun-refused z ∙ ap (λ (x : Bool). pickCall x (λ _. left (leaving (markedAs 1 o (fresh a b))) T E N) λ _. final o (fresh a b) T E N) u
+
+-- what the code lexed is what the definition lexes
+pub begun-lexed : (s t e n T E : List ℕ) (d : Scanned) → Lexing (lexedOf s (room tokenWidth t) (room errorWidth e)) d t T e E
+    → begunAfter (d .outcome) (d .tokens) (d .errors) T E n ≡ begun s t e n
+unfolding begun
+begun-lexed s t e n T E d l = λ i. begunAfter (l .outcome-is i) (l .tokens-are i) (l .errors-are i) (l .token-table i) (l .error-table i) n
+
+-- lexing refused the source, and the node table is as it was
+pub begun-as-it-was : (s t e n T E : List ℕ) (d : Scanned) → Lexing (lexedOf s (room tokenWidth t) (room errorWidth e)) d t T e E → (d .outcome ≡ 0 → ⊥) → eqb (d .outcome) 3 || eqb (d .outcome) 4 ≡ true
+    → (m : Stepped) → m ≡ leaving (markedAs 1 (d .outcome) (fresh (d .tokens) (d .errors))) → left m T E n ≡ begun s t e n
+begun-as-it-was s t e n T E d l z u m h =
+    ap (λ (x : Stepped). left x T E n) h ∙ sym (begun-leaves (d .outcome) (d .tokens) (d .errors) T E n z u) ∙ begun-lexed s t e n T E d l
+
+-- ---- the test
+-- an EOF at token k
+pub eof-there : (T : List ℕ) (i k : ℕ) → i ≡ suc k → kindAt T k ≡ 0 → noEof T i ≡ false
+unfolding noEof
+eof-there T i k e z = ap (noEof T) e ∙ ap (λ (b : Bool). not b && noEof T k) (eq-eqb (kindAt T k) 0 z)
+
+-- none there
+pub eof-not : (T : List ℕ) (i k : ℕ) → i ≡ suc k → (kindAt T k ≡ 0 → ⊥) → noEof T i ≡ noEof T k
+unfolding noEof
+eof-not T i k e z = ap (noEof T) e ∙ ap (λ (b : Bool). not b && noEof T k) (ne-eqb (kindAt T k) 0 z)
+
+-- of no tokens none is EOF
+pub eof-none : (T : List ℕ) (i : ℕ) → i ≡ 0 → noEof T i ≡ true
+unfolding noEof
+eof-none T i e = ap (noEof T) e
+
+-- of no tokens the last is not EOF
+pub only-none : (T : List ℕ) (n : ℕ) → n ≡ 0 → onlyEof T n ≡ false
+unfolding onlyEof
+only-none T n e = ap (onlyEof T) e
+
+-- the last is EOF
+pub only-last : (T : List ℕ) (n k : ℕ) → n ≡ suc k → kindAt T k ≡ 0 → onlyEof T n ≡ noEof T k
+unfolding onlyEof
+only-last T n k e z = ap (onlyEof T) e ∙ ap (λ (b : Bool). b && noEof T k) (eq-eqb (kindAt T k) 0 z)
+
+-- the last is not EOF
+pub only-other : (T : List ℕ) (n k : ℕ) → n ≡ suc k → (kindAt T k ≡ 0 → ⊥) → onlyEof T n ≡ false
+unfolding onlyEof
+only-other T n k e z = ap (onlyEof T) e ∙ ap (λ (b : Bool). b && noEof T k) (ne-eqb (kindAt T k) 0 z)
+
+-- a count that is not 0
+pub one-before : (n : ℕ) → (n ≡ 0 → ⊥) → n ≡ suc (n - 1)
+one-before zero z = elim (z refl) [ ]
+one-before (suc k) z = omega arith
+
+-- the code tests the six in one expression
+abbrev tested : Parser → ℕ → ℕ → ℕ → Bool
+tested p t e n = ((((leb (p .tokens) t && leb (p .errors) e) && leb (p .nodes) n) && leb (p .last) n) && ltb (p .current) (p .tokens)) && leb (p .loops) (p .tokens)
+
+module _ (T E N : List ℕ) (p : Parser) (t e n : ℕ) (is-t : t ≡ room tokenWidth T) (is-e : e ≡ room errorWidth E) (is-n : n ≡ room nodeWidth N) where
+  tested-within : tested p t e n ≡ within T E N p
+  tested-within = λ i. tested p (is-t i) (is-e i) (is-n i)
+
+  -- it holds, and the tokens decide
+  pub fits-decides : tested p t e n ≡ true → onlyEof T (p .tokens) ≡ fitsIn T E N p
+  unfolding fitsIn
+  fits-decides h = ap (λ (b : Bool). b && onlyEof T (p .tokens)) (sym h ∙ tested-within)
+
+  -- it fails
+  pub fits-fails : tested p t e n ≡ false → false ≡ fitsIn T E N p
+  unfolding fitsIn
+  fits-fails h = ap (λ (b : Bool). b && onlyEof T (p .tokens)) (sym h ∙ tested-within)
+
+-- ---- read
+module _ (T E N : List ℕ) (p : Parser) where
+  -- whether the final answer was given
+  abbrev by : Bool → Called
+  by b = pickCall b (λ _. pickCall (fitsIn T E N p) (λ _. oneOf T p E N) λ _. left (refusedAs p) T E N) λ _. left (leaving p) T E N
+
+  -- the final answer once more
+  pub read-again : (p .ended ≡ 0 → ⊥) → left (leaving p) T E N ≡ readOf T E N p
+  unfolding readOf
+  read-again z = ap by (sym (ne-eqb (p .ended) 0 z))
+
+  module _ (z : p .ended ≡ 0) (b : Bool) (is : b ≡ fitsIn T E N p) where
+    read-tests : pickCall b (λ _. oneOf T p E N) (λ _. left (refusedAs p) T E N) ≡ readOf T E N p
+    unfolding readOf
+    read-tests = ap (λ (x : Bool). pickCall x (λ _. oneOf T p E N) λ _. left (refusedAs p) T E N) is ∙ ap by (sym (eq-eqb (p .ended) 0 z))
+
+    -- 18
+    pub read-refuses : b ≡ false → left (refusedAs p) T E N ≡ readOf T E N p
+    read-refuses h = ap (λ (x : Bool). pickCall x (λ _. oneOf T p E N) λ _. left (refusedAs p) T E N) (sym h) ∙ read-tests
+
+    -- one statement
+    pub read-reads : b ≡ true → oneOf T p E N ≡ readOf T E N p
+    read-reads h = ap (λ (x : Bool). pickCall x (λ _. oneOf T p E N) λ _. left (refusedAs p) T E N) (sym h) ∙ read-tests

@@ -1,0 +1,293 @@
+// One statement at a time, over a parser that the host keeps and lends.
+ghost use mathlib.Core.Path.{_≡_};
+ghost use mathlib.Core.List.{List};
+ghost use Prim.Native.Nat.{ℕ};
+ghost use Rattle.pair.specs.Pair.{left, leaving, markedAs, final, restOf, begun, noEof, onlyEof, fitsIn, refusedAs, oneOf, readOf};
+use parser::Got;
+use reader::Answer;
+use token::Token;
+
+// What the host keeps between two calls: the cursor, the open loops, how many tokens, errors and nodes stand in the tables, the first and the last
+// statement, and the last outcome; `ended` is 0 until that is the final answer. A parser of zeros is one that nothing was begun with: a read answers 18.
+#[repr(C)]
+pub struct Parser {
+    pub current: u32,
+    pub loops: u32,
+    pub tokens: u32,
+    pub errors: u32,
+    pub nodes: u32,
+    pub first: u32,
+    pub last: u32,
+    pub ended: u32,
+    pub outcome: u32,
+}
+
+// A call's answer, with the parser beside it.
+#[repr(C)]
+pub struct Stepped {
+    pub parser: Parser,
+    pub answer: Answer,
+}
+
+// The parser as it is, and the answer that it holds.
+fn leave(p: Parser) -> Stepped
+    ensures { λ r. ⌜ r ≡ leaving p ⌝ }
+{
+    Stepped {
+        parser: p,
+        answer: Answer {
+            outcome: p.outcome,
+            tokens: p.tokens,
+            errors: p.errors,
+            nodes: p.nodes,
+            first: p.first,
+        },
+    }
+}
+
+// The same with another mark.
+fn mark(p: Parser, ended: u32, outcome: u32) -> Stepped
+    ensures { λ r. ⌜ r ≡ leaving (markedAs ended outcome p) ⌝ }
+{
+    leave(Parser {
+        current: p.current,
+        loops: p.loops,
+        tokens: p.tokens,
+        errors: p.errors,
+        nodes: p.nodes,
+        first: p.first,
+        last: p.last,
+        ended,
+        outcome,
+    })
+}
+
+// The final answer.
+fn finish(nodes: &mut [u32], p: Parser, outcome: u32) -> Stepped
+    ensures { λ r. ⌜ ((T E : List ℕ) → left r T E (now (nodes .exit)) ≡ final outcome p T E (now (nodes .entry))) ⌝ }
+{
+    let kept = p.nodes;
+    records::zero_rest(nodes, kept);
+    mark(p, 1, outcome)
+}
+
+// A token before EOF is left to be read, or the reading is at its end.
+fn rest(tokens: &[u32], nodes: &mut [u32], p: Parser) -> Stepped
+    ensures { λ r. ⌜ ((E : List ℕ) → left r (now (tokens .entry)) E (now (nodes .exit)) ≡ restOf (now (tokens .entry)) p E (now (nodes .entry))) ⌝ }
+{
+    let at = p.current;
+    if parser::kind_at(tokens, at) == Token::EOF {
+        return finish(nodes, p, 0);
+    }
+    mark(p, 0, 19)
+}
+
+// Whether none of the first n tokens is EOF.
+fn no_eof(tokens: &[u32], n: u32) -> bool
+    ensures { λ r. ⌜ r ≡ noEof (now (tokens .entry)) n ⌝ }
+{
+    let mut i = n;
+    while i > 0 {
+        i -= 1;
+        if parser::kind_at(tokens, i) == Token::EOF {
+            return false;
+        }
+    }
+    true
+}
+
+// Whether the last of n tokens is EOF, and the only one.
+fn only_eof(tokens: &[u32], n: u32) -> bool
+    ensures { λ r. ⌜ r ≡ onlyEof (now (tokens .entry)) n ⌝ }
+{
+    if n == 0 {
+        return false;
+    }
+    let last = n - 1;
+    if parser::kind_at(tokens, last) == Token::EOF {
+        return no_eof(tokens, last);
+    }
+    false
+}
+
+// Whether a read can go on with what it is lent. The tokens are looked at only where their count fits the table.
+fn fits(tokens: &[u32], errors: &[u32], nodes: &[u32], p: Parser) -> bool
+    ensures { λ r. ⌜ r ≡ fitsIn (now (tokens .entry)) (now (errors .entry)) (now (nodes .entry)) p ⌝ }
+{
+    let t = records::token_room(tokens);
+    let e = records::error_room(errors);
+    let n = records::node_room(nodes);
+    if (p.tokens <= t)
+        & (p.errors <= e)
+        & (p.nodes <= n)
+        & (p.last <= n)
+        & (p.current < p.tokens)
+        & (p.loops <= p.tokens)
+    {
+        return only_eof(tokens, p.tokens);
+    }
+    false
+}
+
+// One top-level statement, by the reader that `parse` uses too.
+fn one(tokens: &[u32], errors: &mut [u32], nodes: &mut [u32], p: Parser) -> Stepped
+    ensures { λ r. ⌜ left r (now (tokens .entry)) (now (errors .exit)) (now (nodes .exit)) ≡ oneOf (now (tokens .entry)) p (now (errors .entry)) (now (nodes .entry)) ⌝ }
+{
+    let at = p.current;
+    if parser::kind_at(tokens, at) == Token::EOF {
+        return finish(nodes, p, 0);
+    }
+    let s = parser::Parser {
+        current: p.current,
+        errors: p.errors,
+        nodes: p.nodes,
+        loops: p.loops,
+    };
+    let g = statements::top_level(tokens, errors, nodes, s);
+    let k = g.got;
+    let u = g.p;
+    match k {
+        Got::Stop(o) => finish(
+            nodes,
+            Parser {
+                current: p.current,
+                loops: p.loops,
+                tokens: p.tokens,
+                errors: u.errors,
+                nodes: p.nodes,
+                first: p.first,
+                last: p.last,
+                ended: 0,
+                outcome: 19,
+            },
+            o,
+        ),
+        Got::Node(n) => {
+            let last = p.last;
+            records::link(nodes, last, n.node);
+            let first = parser::first_of(p.first, n.node);
+            rest(
+                tokens,
+                nodes,
+                Parser {
+                    current: u.current,
+                    loops: u.loops,
+                    tokens: p.tokens,
+                    errors: u.errors,
+                    nodes: u.nodes,
+                    first,
+                    last: n.node,
+                    ended: 0,
+                    outcome: 19,
+                },
+            )
+        }
+    }
+}
+
+// The core of `begin`: the source is lexed, whatever the parser was.
+pub fn start(
+    source: &[u8],
+    tokens: &mut [u32],
+    errors: &mut [u32],
+    nodes: &mut [u32],
+    _p: Parser,
+) -> Stepped
+    ensures { λ r. ⌜ (r ≡ begun (now (source .entry)) (now (tokens .entry)) (now (errors .entry)) (now (nodes .entry)) .stepped)
+        × (now (tokens .exit) ≡ begun (now (source .entry)) (now (tokens .entry)) (now (errors .entry)) (now (nodes .entry)) .tokens)
+        × (now (errors .exit) ≡ begun (now (source .entry)) (now (tokens .entry)) (now (errors .entry)) (now (nodes .entry)) .errors)
+        × (now (nodes .exit) ≡ begun (now (source .entry)) (now (tokens .entry)) (now (errors .entry)) (now (nodes .entry)) .nodes) ⌝ }
+{
+    let d = lexer::scan(source, tokens, errors);
+    let p = Parser {
+        current: 0,
+        loops: 0,
+        tokens: d.tokens,
+        errors: d.errors,
+        nodes: 0,
+        first: 0,
+        last: 0,
+        ended: 0,
+        outcome: 19,
+    };
+    if d.outcome == 0 {
+        return rest(tokens, nodes, p);
+    }
+    if (d.outcome != 3) & (d.outcome != 4) {
+        return finish(nodes, p, d.outcome);
+    }
+    mark(p, 1, d.outcome)
+}
+
+// The core of `read`: the final answer once more, 18, or one statement. The source is not looked at again.
+pub fn step(
+    _source: &[u8],
+    tokens: &mut [u32],
+    errors: &mut [u32],
+    nodes: &mut [u32],
+    p: Parser,
+) -> Stepped
+    ensures { λ r. ⌜ (r ≡ readOf (now (tokens .entry)) (now (errors .entry)) (now (nodes .entry)) p .stepped)
+        × (now (tokens .exit) ≡ readOf (now (tokens .entry)) (now (errors .entry)) (now (nodes .entry)) p .tokens)
+        × (now (errors .exit) ≡ readOf (now (tokens .entry)) (now (errors .entry)) (now (nodes .entry)) p .errors)
+        × (now (nodes .exit) ≡ readOf (now (tokens .entry)) (now (errors .entry)) (now (nodes .entry)) p .nodes) ⌝ }
+{
+    if p.ended == 0 {
+        if fits(tokens, errors, nodes, p) {
+            return one(tokens, errors, nodes, p);
+        }
+        return Stepped {
+            parser: p,
+            answer: Answer {
+                outcome: 18,
+                tokens: 0,
+                errors: 0,
+                nodes: 0,
+                first: 0,
+            },
+        };
+    }
+    leave(p)
+}
+
+// `begin` for Rust and C: lexes the source, and leaves a parser that reads its statements.
+#[no_mangle]
+pub extern "C" fn kettleplume_begin(
+    parser: &mut Parser,
+    source: &[u8],
+    tokens: &mut [u32],
+    errors: &mut [u32],
+    nodes: &mut [u32],
+) -> Answer
+    ensures { λ r. ⌜ (r ≡ begun (now (source .entry)) (now (tokens .entry)) (now (errors .entry)) (now (nodes .entry)) .stepped .answer)
+        × (now (parser .exit) ≡ begun (now (source .entry)) (now (tokens .entry)) (now (errors .entry)) (now (nodes .entry)) .stepped .parser)
+        × (now (tokens .exit) ≡ begun (now (source .entry)) (now (tokens .entry)) (now (errors .entry)) (now (nodes .entry)) .tokens)
+        × (now (errors .exit) ≡ begun (now (source .entry)) (now (tokens .entry)) (now (errors .entry)) (now (nodes .entry)) .errors)
+        × (now (nodes .exit) ≡ begun (now (source .entry)) (now (tokens .entry)) (now (errors .entry)) (now (nodes .entry)) .nodes) ⌝ }
+{
+    let p = *parser;
+    let s = start(source, tokens, errors, nodes, p);
+    *parser = s.parser;
+    s.answer
+}
+
+// `read` for Rust and C: one top-level statement, over a parser, a source and tables as the last call left them.
+#[no_mangle]
+pub extern "C" fn kettleplume_next(
+    parser: &mut Parser,
+    source: &[u8],
+    tokens: &mut [u32],
+    errors: &mut [u32],
+    nodes: &mut [u32],
+) -> Answer
+    ensures { λ r. ⌜ (r ≡ readOf (now (tokens .entry)) (now (errors .entry)) (now (nodes .entry)) (now (parser .entry)) .stepped .answer)
+        × (now (parser .exit) ≡ readOf (now (tokens .entry)) (now (errors .entry)) (now (nodes .entry)) (now (parser .entry)) .stepped .parser)
+        × (now (tokens .exit) ≡ readOf (now (tokens .entry)) (now (errors .entry)) (now (nodes .entry)) (now (parser .entry)) .tokens)
+        × (now (errors .exit) ≡ readOf (now (tokens .entry)) (now (errors .entry)) (now (nodes .entry)) (now (parser .entry)) .errors)
+        × (now (nodes .exit) ≡ readOf (now (tokens .entry)) (now (errors .entry)) (now (nodes .entry)) (now (parser .entry)) .nodes) ⌝ }
+{
+    let p = *parser;
+    let s = step(source, tokens, errors, nodes, p);
+    *parser = s.parser;
+    s.answer
+}

@@ -1,0 +1,246 @@
+//! The border to the proved library: its functions, and what they take and give.
+//!
+//! A slice crosses it as a pointer and a length, in two parameters. Each function takes any bytes
+//! and tables of any size, and writes nothing beyond them; its promise, which is proved, says what
+//! every word is afterwards (docs/PROMISES.md).
+
+/// What a reading answers.
+#[repr(C)]
+#[derive(Debug, Clone, Copy, PartialEq, Eq, Default)]
+pub struct Answer {
+    /// Document 01's number: 0 to 8, for a read of one statement also 18 and 19.
+    pub outcome: u32,
+    /// How many token records are kept.
+    pub tokens: u32,
+    /// How many error records are kept.
+    pub errors: u32,
+    /// How many node records are kept.
+    pub nodes: u32,
+    /// The number of the first statement's node, 0 where no statement is kept.
+    pub first: u32,
+}
+
+/// What lexing answers.
+#[repr(C)]
+#[derive(Debug, Clone, Copy, PartialEq, Eq, Default)]
+pub struct Scanned {
+    /// Document 01's number: 0 or 2 to 6.
+    pub outcome: u32,
+    /// How many token records are kept.
+    pub tokens: u32,
+    /// How many error records are kept.
+    pub errors: u32,
+}
+
+/// What decoding a string answers.
+#[repr(C)]
+#[derive(Debug, Clone, Copy, PartialEq, Eq, Default)]
+pub struct Decoded {
+    /// Document 01's number: 0, 3, 4, 9 or 10.
+    pub outcome: u32,
+    /// How many bytes of the buffer are the decoded text.
+    pub length: usize,
+}
+
+/// What reading one statement at a time keeps between two calls. Any value gets an answer.
+#[repr(C)]
+#[derive(Debug, Clone, Copy, PartialEq, Eq, Default)]
+pub struct Parser {
+    /// The index of the token that is looked at next.
+    pub current: u32,
+    /// How many loops are open.
+    pub loops: u32,
+    /// How many tokens stand in their table.
+    pub tokens: u32,
+    /// How many errors stand in their table.
+    pub errors: u32,
+    /// How many nodes stand in their table.
+    pub nodes: u32,
+    /// The number of the first statement's node, 0 for none.
+    pub first: u32,
+    /// The number of the last statement's node, 0 for none.
+    pub last: u32,
+    /// Other than 0 once the final answer is given.
+    pub ended: u32,
+    /// The outcome of the last answer.
+    pub outcome: u32,
+}
+
+/// Reads a source into three tables: what it makes of it, and every word of the tables afterwards, is
+/// fixed by the definition `reading` for any bytes and tables of any size.
+///
+/// Word counts are the slices' lengths; a token is 7 words, an error 3, a node 9.
+pub fn read(source: &[u8], tokens: &mut [u32], errors: &mut [u32], nodes: &mut [u32]) -> Answer {
+    // Each pointer and its length are one slice's, and the three tables are lent alone.
+    unsafe {
+        c::kettleplume_read(
+            source.as_ptr(),
+            source.len(),
+            tokens.as_mut_ptr(),
+            tokens.len(),
+            errors.as_mut_ptr(),
+            errors.len(),
+            nodes.as_mut_ptr(),
+            nodes.len(),
+        )
+    }
+}
+
+/// Lexes a source into two tables, without parsing.
+pub fn scan(source: &[u8], tokens: &mut [u32], errors: &mut [u32]) -> Scanned {
+    // As in `read`.
+    unsafe {
+        kettleplume_scan(
+            source.as_ptr(),
+            source.len(),
+            tokens.as_mut_ptr(),
+            tokens.len(),
+            errors.as_mut_ptr(),
+            errors.len(),
+        )
+    }
+}
+
+/// Decodes the string whose opening quote stands at `start`. A refusal leaves the buffer as it was.
+pub fn decode(source: &[u8], start: usize, buffer: &mut [u8]) -> Decoded {
+    // As in `read`.
+    unsafe {
+        kettleplume_decode(
+            source.as_ptr(),
+            source.len(),
+            start,
+            buffer.as_mut_ptr(),
+            buffer.len(),
+        )
+    }
+}
+
+impl Parser {
+    /// Lexes a source, whatever the parser was, and makes ready to read its statements. 19 says that
+    /// there is one to read; any other answer is final.
+    pub fn begin(
+        &mut self,
+        source: &[u8],
+        tokens: &mut [u32],
+        errors: &mut [u32],
+        nodes: &mut [u32],
+    ) -> Answer {
+        self.call(c::kettleplume_begin, source, tokens, errors, nodes)
+    }
+
+    /// Reads one top-level statement, over the source and the tables as the last call left them. 19
+    /// says that there is another; 18, that parser and tables don't go together, and nothing is
+    /// changed; any other answer is final, and is given again from then on.
+    pub fn next(
+        &mut self,
+        source: &[u8],
+        tokens: &mut [u32],
+        errors: &mut [u32],
+        nodes: &mut [u32],
+    ) -> Answer {
+        self.call(c::kettleplume_next, source, tokens, errors, nodes)
+    }
+
+    fn call(
+        &mut self,
+        function: Lent,
+        source: &[u8],
+        tokens: &mut [u32],
+        errors: &mut [u32],
+        nodes: &mut [u32],
+    ) -> Answer {
+        // As in `read`; the parser is lent alone too.
+        unsafe {
+            function(
+                self,
+                source.as_ptr(),
+                source.len(),
+                tokens.as_mut_ptr(),
+                tokens.len(),
+                errors.as_mut_ptr(),
+                errors.len(),
+                nodes.as_mut_ptr(),
+                nodes.len(),
+            )
+        }
+    }
+}
+
+extern "C" {
+    fn kettleplume_scan(
+        source: *const u8,
+        length: usize,
+        tokens: *mut u32,
+        token_words: usize,
+        errors: *mut u32,
+        error_words: usize,
+    ) -> Scanned;
+    fn kettleplume_decode(
+        source: *const u8,
+        length: usize,
+        start: usize,
+        buffer: *mut u8,
+        room: usize,
+    ) -> Decoded;
+}
+
+/// The functions that answer with an `Answer`, which is returned in memory. On x86-64 that is C's way
+/// and theirs; compiled for another machine they keep to it, and the place is their first parameter.
+macro_rules! answering {
+    ($($name:ident($($parameter:ident: $type:ty),*);)*) => {
+        mod c {
+            use super::{Answer, Parser};
+
+            mod at {
+                use super::{Answer, Parser};
+
+                extern "C" {
+                    $(#[cfg(target_arch = "x86_64")]
+                    pub fn $name($($parameter: $type),*) -> Answer;
+                    #[cfg(not(target_arch = "x86_64"))]
+                    pub fn $name(answer: *mut Answer, $($parameter: $type),*);)*
+                }
+            }
+
+            $(#[cfg(target_arch = "x86_64")]
+            pub unsafe fn $name($($parameter: $type),*) -> Answer {
+                at::$name($($parameter),*)
+            }
+
+            #[cfg(not(target_arch = "x86_64"))]
+            pub unsafe fn $name($($parameter: $type),*) -> Answer {
+                let mut answer = Answer::default();
+                at::$name(&mut answer, $($parameter),*);
+                answer
+            })*
+        }
+    };
+}
+
+answering! {
+    kettleplume_read(
+        source: *const u8, length: usize, tokens: *mut u32, token_words: usize,
+        errors: *mut u32, error_words: usize, nodes: *mut u32, node_words: usize
+    );
+    kettleplume_begin(
+        parser: *mut Parser, source: *const u8, length: usize, tokens: *mut u32, token_words: usize,
+        errors: *mut u32, error_words: usize, nodes: *mut u32, node_words: usize
+    );
+    kettleplume_next(
+        parser: *mut Parser, source: *const u8, length: usize, tokens: *mut u32, token_words: usize,
+        errors: *mut u32, error_words: usize, nodes: *mut u32, node_words: usize
+    );
+}
+
+/// A call of the pair.
+type Lent = unsafe fn(
+    *mut Parser,
+    *const u8,
+    usize,
+    *mut u32,
+    usize,
+    *mut u32,
+    usize,
+    *mut u32,
+    usize,
+) -> Answer;

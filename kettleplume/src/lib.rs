@@ -1,0 +1,3 @@
+//! The reading half of Grotsky, proved.
+
+pub mod border;
