@@ -7,7 +7,10 @@ fn worked_example() {
     let mut e = [7u32; 30];
     let mut n = [7u32; 90];
     let a = read(source, &mut t, &mut e, &mut n);
-    assert_eq!((a.outcome, a.tokens, a.errors, a.nodes, a.first), (0, 5, 0, 4, 4));
+    assert_eq!(
+        (a.outcome, a.tokens, a.errors, a.nodes, a.first),
+        (0, 5, 0, 4, 4)
+    );
     let s = scan(source, &mut t, &mut e);
     assert_eq!((s.outcome, s.tokens, s.errors), (0, 5, 0));
     let mut b = [0u8; 9];

@@ -1,0 +1,106 @@
+//! What can come of a call, by document 01's numbers, in words.
+
+use std::fmt;
+
+/// Why a reading did not come to the end of its script, or why a call was refused.
+///
+/// A script whose reading ends (document 01's outcome 0) has no such error, though it may have
+/// recorded ones, with a message and a line.
+#[derive(Debug, Clone, Copy, PartialEq, Eq, Hash)]
+pub enum Error {
+    /// 1: a mistake after which the rest can't be read. The last recorded error says which.
+    Stopped,
+    /// 2: a number with a point runs to the last byte of the script.
+    PointAtEnd,
+    /// 3: the bytes are no text.
+    NoText,
+    /// 4: more than 65,535 bytes.
+    TooLong,
+    /// 5: a token found no room in its table.
+    TokenRoom,
+    /// 6: an error found no room in its table.
+    ErrorRoom,
+    /// 7: a node found no room in its table.
+    NodeRoom,
+    /// 8: more than 128 levels.
+    TooDeep,
+    /// 9: no closed string begins where one was to be decoded.
+    NoString,
+    /// 10: the decoded string is longer than its buffer.
+    BufferRoom,
+    /// 18: the parser and the tables that were lent don't go together.
+    Mismatch,
+    /// No number of document 01's: the records are whole, but as trees, which repeat what records
+    /// share, they would be larger than [`TREE_LIMIT`](crate::TREE_LIMIT) nodes.
+    TreesTooLarge,
+}
+
+impl Error {
+    /// All that have a number, in its order.
+    pub const NUMBERED: [Error; 11] = [
+        Error::Stopped,
+        Error::PointAtEnd,
+        Error::NoText,
+        Error::TooLong,
+        Error::TokenRoom,
+        Error::ErrorRoom,
+        Error::NodeRoom,
+        Error::TooDeep,
+        Error::NoString,
+        Error::BufferRoom,
+        Error::Mismatch,
+    ];
+
+    /// The error with this number. 0, the end of a reading, and 19, more statements to read, are none.
+    pub fn of(outcome: u32) -> Option<Error> {
+        Error::NUMBERED
+            .into_iter()
+            .find(|error| error.number() == Some(outcome))
+    }
+
+    /// Document 01's number.
+    pub fn number(self) -> Option<u32> {
+        Some(match self {
+            Error::Stopped => 1,
+            Error::PointAtEnd => 2,
+            Error::NoText => 3,
+            Error::TooLong => 4,
+            Error::TokenRoom => 5,
+            Error::ErrorRoom => 6,
+            Error::NodeRoom => 7,
+            Error::TooDeep => 8,
+            Error::NoString => 9,
+            Error::BufferRoom => 10,
+            Error::Mismatch => 18,
+            Error::TreesTooLarge => return None,
+        })
+    }
+}
+
+impl fmt::Display for Error {
+    fn fmt(&self, f: &mut fmt::Formatter) -> fmt::Result {
+        f.write_str(match self {
+            Error::Stopped => "the script has a mistake after which the rest can't be read",
+            Error::PointAtEnd => {
+                "the script ends within a number: a number with a point needs something behind it, \
+                 if only a new line"
+            }
+            Error::NoText => "the file is no text: its bytes are not UTF-8",
+            Error::TooLong => "the script is longer than 65,535 bytes",
+            Error::TokenRoom => "the script has more words and marks than there is room for",
+            Error::ErrorRoom => "the script has more mistakes than there is room for",
+            Error::NodeRoom => "the script has more parts than there is room for",
+            Error::TooDeep => "the script is nested more than 128 levels deep",
+            Error::NoString => "no closed string begins at that place",
+            Error::BufferRoom => "the text of the string is longer than the buffer for it",
+            Error::Mismatch => {
+                "the parser and the tables don't go together: nothing was read, and nothing changed"
+            }
+            Error::TreesTooLarge => {
+                "the script repeats itself so deeply that its trees would be too large to build"
+            }
+        })
+    }
+}
+
+impl std::error::Error for Error {}

@@ -1,0 +1,100 @@
+//! Tables of records that are large enough for any source.
+
+use crate::border::{self, Answer};
+
+/// The longest source that is read, in bytes.
+pub const LONGEST: usize = 65_535;
+
+/// Words of a token record: kind, start, length, line, value sort, two value words.
+pub const TOKEN_WORDS: usize = 7;
+/// Words of an error record: message, line, pos.
+pub const ERROR_WORDS: usize = 3;
+/// Words of a node record: kind, three tokens, four children, next.
+pub const NODE_WORDS: usize = 9;
+
+/// How many records of each sort a source can need.
+#[derive(Debug, Clone, Copy, PartialEq, Eq)]
+pub struct Rooms {
+    pub tokens: usize,
+    pub errors: usize,
+    pub nodes: usize,
+}
+
+impl Rooms {
+    /// Room enough for every source of so many bytes, so that no reading of one ends with 5, 6 or 7.
+    ///
+    /// - A token is at least a byte long, and tokens don't overlap; the added Newline and EOF
+    ///   are empty. So `length + 2` tokens.
+    /// - A node can be laid to a token's charge: a name, number, bracket, prefix, operator, point,
+    ///   keyword or parameter to its own, and an expression that stands as a statement to its first,
+    ///   which has then two; so has a newline that stands for an empty statement. EOF has none. So
+    ///   twice `length + 1` nodes.
+    /// - An error of lexing is about a byte that no token has. One that the parser records, and
+    ///   goes on, can be laid to the charge of the token which began what lacks something: a
+    ///   bracket that isn't closed, a statement without a new line, a key without a colon. No token
+    ///   has more than two for each of its bytes, and the added Newline no more than two. One
+    ///   more ends the reading. So `2 * length + 3` errors.
+    ///
+    /// A source over [`LONGEST`] is refused before any record is written: no room is needed.
+    pub fn enough(length: usize) -> Rooms {
+        if length > LONGEST {
+            return Rooms {
+                tokens: 0,
+                errors: 0,
+                nodes: 0,
+            };
+        }
+        Rooms {
+            tokens: length + 2,
+            errors: 2 * length + 3,
+            nodes: 2 * length + 2,
+        }
+    }
+}
+
+/// Three tables of a caller that reads many sources: they grow as needed, and what stood in them
+/// doesn't matter.
+#[derive(Debug, Clone, Default)]
+pub struct Tables {
+    tokens: Vec<u32>,
+    errors: Vec<u32>,
+    nodes: Vec<u32>,
+}
+
+/// A reading's answer and the records that it kept.
+#[derive(Debug, Clone, Copy)]
+pub struct Records<'a> {
+    pub answer: Answer,
+    pub tokens: &'a [[u32; TOKEN_WORDS]],
+    pub errors: &'a [[u32; ERROR_WORDS]],
+    pub nodes: &'a [[u32; NODE_WORDS]],
+}
+
+impl Tables {
+    pub fn new() -> Tables {
+        Tables::default()
+    }
+
+    /// Reads a source; there is always room enough.
+    pub fn read(&mut self, source: &[u8]) -> Records<'_> {
+        let rooms = Rooms::enough(source.len());
+        let tokens = lent(&mut self.tokens, TOKEN_WORDS * rooms.tokens);
+        let errors = lent(&mut self.errors, ERROR_WORDS * rooms.errors);
+        let nodes = lent(&mut self.nodes, NODE_WORDS * rooms.nodes);
+        let answer = border::read(source, tokens, errors, nodes);
+        Records {
+            answer,
+            tokens: &tokens.as_chunks().0[..answer.tokens as usize],
+            errors: &errors.as_chunks().0[..answer.errors as usize],
+            nodes: &nodes.as_chunks().0[..answer.nodes as usize],
+        }
+    }
+}
+
+/// So many words of a table, which grows if it has fewer.
+fn lent(table: &mut Vec<u32>, words: usize) -> &mut [u32] {
+    if table.len() < words {
+        table.resize(words, 0);
+    }
+    &mut table[..words]
+}
