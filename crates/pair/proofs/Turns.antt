@@ -15,6 +15,7 @@ use Rattle.parser.specs.Reading.{firstOf}
 use Rattle.parser.specs.Whole.{Parsed, ends, topLevel, statements, parsed}
 use Rattle.statements.proofs.TopLevel.{at-end, stops, goes-on, statement-past}
 use Rattle.reader.specs.declared.Answer.{Answer}
+use Rattle.reader.proofs.Outcome.{reading-outcome}
 use Rattle.reader.specs.Reading.{Reading, over, refused, joined, pickReading, reading, Answers}
 use Rattle.pair.specs.declared.Parser.{Parser}
 use Rattle.pair.specs.Pair.{Called, left, held, leaving, markedAs, final, pickCall, restOf, fresh, begun, fitsIn, refusedAs, stateOf, behind, stoppedAt, afterOne, oneOf, readOf, next, reads}
@@ -141,3 +142,7 @@ module _ (s t e n : List ℕ) (k : ℕ) where
   -- a read after that returns the same and changes nothing
   pub yields-again : (called .stepped .parser .ended ≡ 0 → ⊥) → next called ≡ called
   yields-again = final-again (reading s t e n) called (reads-stand (reading s t e n) k (begun s t e n) (begun-stands s t e n))
+
+  -- and the final answer is one of 0 to 8
+  pub final-number : (called .stepped .parser .ended ≡ 0 → ⊥) → called .stepped .answer .outcome ≤ 8
+  final-number z = let a = yields-whole z .outcome-is in let b = reading-outcome s t e n in omega (arith, a, b)

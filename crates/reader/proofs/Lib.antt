@@ -3,3 +3,4 @@ pub mod One
 pub mod Rooms
 pub mod Sizes
 pub mod Codes
+pub mod Outcome
