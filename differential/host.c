@@ -9,12 +9,16 @@
  *   2, token words, error words, fill, 0  lexes it
  *   3, buffer bytes, fill, start, start   decodes the string at start (low word, high word)
  *   4, token, error and node words, fill  reads it
+ *   5, token, error and node words, fill  reads it one statement at a time, and once more
  * An answer is some words and then the tables, or the buffer, as the call left them:
  *   outcome, tokens, errors, intact       after 2; the token words and the error words follow
  *   outcome, length, length, intact       after 3 (low word, high word); the buffer's bytes follow
- *   outcome, tokens, errors, nodes, first statement, intact
- *                                         after 4; the token, error and node words follow
- * Each table lies between guards; intact is 1 if all of them are as they were, else 0.
+ *   outcome, tokens, errors, nodes, first statement, intact, steady, count
+ *                                         after 4 and 5; count times four words and the token, error
+ *                                         and node words follow
+ * Each table lies between guards; intact is 1 if all of them are as they were, else 0. After 5 steady
+ * is 1 if the read behind the final answer gave it again and changed nothing, and the count is that of
+ * the answers 19: tokens, errors, nodes and first statement of each follow. After 4 they are 1 and 0.
  *
  * No header is included: the toolchain's compiler comes without those of the C library.
  */
@@ -37,6 +41,13 @@ struct Scanned kettleplume_scan(const u8 *source, usize length, u32 *tokens, usi
 struct Decoded kettleplume_decode(const u8 *source, usize length, usize start, u8 *buffer, usize room);
 struct Answer kettleplume_read(const u8 *source, usize length, u32 *tokens, usize token_words,
                                u32 *errors, usize error_words, u32 *nodes, usize node_words);
+struct Parser { u32 current, loops, tokens, errors, nodes, first, last, ended, outcome; };
+struct Answer kettleplume_begin(struct Parser *parser, const u8 *source, usize length, u32 *tokens,
+                                usize token_words, u32 *errors, usize error_words, u32 *nodes,
+                                usize node_words);
+struct Answer kettleplume_next(struct Parser *parser, const u8 *source, usize length, u32 *tokens,
+                               usize token_words, u32 *errors, usize error_words, u32 *nodes,
+                               usize node_words);
 
 enum {
     GUARD = 8, /* words or bytes on each side of a table */
@@ -56,6 +67,9 @@ static u32 tokens[TOKEN_WORDS + 2 * GUARD];
 static u32 errors[ERROR_WORDS + 2 * GUARD];
 static u32 nodes[NODE_WORDS + 2 * GUARD];
 static u8 buffer[BUFFER + 2 * GUARD];
+/* As they were before the last read, and the answers on the way. */
+static u32 kept[TOKEN_WORDS + ERROR_WORDS + NODE_WORDS];
+static u32 so_far[4 * (SOURCE + GUARD)];
 
 static u8 in[PIPE], out[PIPE];
 static usize in_at, in_end, out_end;
@@ -125,16 +139,60 @@ static void lex(usize token_words, usize error_words, u32 fill) {
     put(errors + GUARD, error_words * sizeof(u32));
 }
 
-static void read_whole(usize token_words, usize error_words, usize node_words, u32 fill) {
+/* The tables one after the other; whether they are as they were then. */
+static void keep(usize token_words, usize error_words, usize node_words) {
+    memcpy(kept, tokens + GUARD, token_words * sizeof(u32));
+    memcpy(kept + token_words, errors + GUARD, error_words * sizeof(u32));
+    memcpy(kept + token_words + error_words, nodes + GUARD, node_words * sizeof(u32));
+}
+
+static u32 same_words(const u32 *a, const u32 *b, usize words) {
+    for (usize i = 0; i < words; i++)
+        if (a[i] != b[i]) return 0;
+    return 1;
+}
+
+static u32 as_kept(usize token_words, usize error_words, usize node_words) {
+    return same_words(kept, tokens + GUARD, token_words) &
+           same_words(kept + token_words, errors + GUARD, error_words) &
+           same_words(kept + token_words + error_words, nodes + GUARD, node_words);
+}
+
+/* Begins and reads up to the final answer, and once more; no source needs more reads than this. */
+static struct Answer one_at_a_time(usize t, usize e, usize n, u32 *steady, u32 *count) {
+    static const struct Parser none;
+    struct Parser parser = none;
+    struct Answer r = kettleplume_begin(&parser, source, source_length, tokens + GUARD, t,
+                                        errors + GUARD, e, nodes + GUARD, n);
+    for (*count = 0; r.outcome == 19 && *count < source_length + 3; ++*count) {
+        u32 *at = so_far + 4 * *count;
+        at[0] = r.tokens, at[1] = r.errors, at[2] = r.nodes, at[3] = r.first;
+        r = kettleplume_next(&parser, source, source_length, tokens + GUARD, t, errors + GUARD, e,
+                             nodes + GUARD, n);
+    }
+    keep(t, e, n);
+    struct Parser before = parser;
+    struct Answer again = kettleplume_next(&parser, source, source_length, tokens + GUARD, t,
+                                           errors + GUARD, e, nodes + GUARD, n);
+    *steady = as_kept(t, e, n) &
+              same_words((u32 *)&again, (u32 *)&r, sizeof r / sizeof(u32)) &
+              same_words((u32 *)&before, (u32 *)&parser, sizeof parser / sizeof(u32));
+    return r;
+}
+
+static void read_into(u32 pair, usize token_words, usize error_words, usize node_words, u32 fill) {
     if (token_words > TOKEN_WORDS || error_words > ERROR_WORDS || node_words > NODE_WORDS) exit(2);
     lay(tokens, token_words, fill);
     lay(errors, error_words, fill);
     lay(nodes, node_words, fill);
-    struct Answer r = kettleplume_read(source, source_length, tokens + GUARD, token_words,
-                                       errors + GUARD, error_words, nodes + GUARD, node_words);
+    u32 steady = 1, count = 0;
+    struct Answer r = pair ? one_at_a_time(token_words, error_words, node_words, &steady, &count)
+                           : kettleplume_read(source, source_length, tokens + GUARD, token_words,
+                                              errors + GUARD, error_words, nodes + GUARD, node_words);
     u32 whole = intact(tokens, token_words) & intact(errors, error_words) & intact(nodes, node_words);
-    u32 answer[6] = {r.outcome, r.tokens, r.errors, r.nodes, r.first, whole};
+    u32 answer[8] = {r.outcome, r.tokens, r.errors, r.nodes, r.first, whole, steady, count};
     put(answer, sizeof answer);
+    put(so_far, count * 4 * sizeof(u32));
     put(tokens + GUARD, token_words * sizeof(u32));
     put(errors + GUARD, error_words * sizeof(u32));
     put(nodes + GUARD, node_words * sizeof(u32));
@@ -161,7 +219,8 @@ int main(void) {
         case 1: set_source(q[1], (u8)q[2]); break;
         case 2: lex(q[1], q[2], q[3]); break;
         case 3: decode(q[1], (u8)q[2], (usize)q[4] << 32 | q[3]); break;
-        case 4: read_whole(q[1], q[2], q[3], q[4]); break;
+        case 4: read_into(0, q[1], q[2], q[3], q[4]); break;
+        case 5: read_into(1, q[1], q[2], q[3], q[4]); break;
         default: return 2;
         }
     }

@@ -46,18 +46,24 @@ fn link(out: &Path) -> Had<()> {
         }
     };
     let kit = Kit::find()?;
-    let libs = out.join("lib");
+    let (libs, archives) = (out.join("lib"), out.join("archives"));
     renewed(&libs)?;
+    renewed(&archives)?;
     for name in EXPORTS {
-        let archive = libs.join(format!("libkettleplume_{name}.a"));
+        let library = libs.join(format!("libkettleplume_{name}.a"));
+        let archive = archives.join(format!("lib{name}.a"));
         if native {
-            kit.compile(name, &out.join("kit"), &archive)?;
+            let folder = out.join("kit");
+            copied(&kit.compile(name, &folder, &library)?, &archive)?;
         } else {
-            fs::copy(kit.archive(name)?, &archive).map_err(|e| told(&archive, e))?;
+            copied(&kit.archive(name, &kit.home)?, &archive)?;
+            copied(&archive, &library)?;
         }
         println!("cargo::rustc-link-lib=static=kettleplume_{name}");
     }
     println!("cargo::rustc-link-search=native={}", libs.display());
+    // For the tests that try the archives themselves.
+    println!("cargo::metadata=archives={}", archives.display());
     Ok(())
 }
 
@@ -85,12 +91,8 @@ impl Kit {
         Ok(Kit { rt, home })
     }
 
-    /// Proves a crate and makes its archive for x86-64.
-    fn archive(&self, name: &str) -> Had<PathBuf> {
-        self.archive_at(name, &self.home)
-    }
-
-    fn archive_at(&self, name: &str, home: &Path) -> Had<PathBuf> {
+    /// Proves a crate and makes its archive for x86-64, with the toolchain in this folder.
+    fn archive(&self, name: &str, home: &Path) -> Had<PathBuf> {
         let root = Path::new(env!("CARGO_MANIFEST_DIR")).join("..");
         run(Command::new(&self.rt)
             .args(["staticlib", name])
@@ -99,11 +101,11 @@ impl Kit {
         Ok(root.join(format!("target/staticlib/lib{name}.a")))
     }
 
-    /// Proves a crate, and makes an archive for this machine from the toolchain's module.
-    fn compile(&self, name: &str, folder: &Path, archive: &Path) -> Had<()> {
+    /// Proves a crate and makes its archive, and a library for this machine from the same module.
+    fn compile(&self, name: &str, folder: &Path, library: &Path) -> Had<PathBuf> {
         let module = folder.join("module.bc");
         self.shadow(folder, &module)?;
-        self.archive_at(name, folder)?;
+        let archive = self.archive(name, folder)?;
         let object = folder.join("module.o");
         let tools = self.tools();
         run(Command::new(tools.join("clang"))
@@ -112,7 +114,8 @@ impl Kit {
             .args([&module, Path::new("-o"), &object]))?;
         run(Command::new(tools.join("llvm-ar"))
             .arg("crs")
-            .args([archive, &object]))
+            .args([library, &object]))?;
+        Ok(archive)
     }
 
     /// The toolchain's own compiler and what goes with it.
@@ -155,6 +158,11 @@ fn linked(from: &Path, to: &Path, but: &std::ffi::OsStr) -> Had<()> {
         }
     }
     Ok(())
+}
+
+fn copied(from: &Path, to: &Path) -> Had<()> {
+    let copied = fs::copy(from, to);
+    copied.map(|_| ()).map_err(|e| told(from, e))
 }
 
 /// An empty folder.

@@ -112,7 +112,7 @@ pub fn run(host: &mut Host, trials: &[Trial]) -> Option<(usize, Difference)> {
         Ok(found) => return found,
         Err(end) => end,
     };
-    *host = Host::start();
+    *host = host.again();
     if let [trial] = trials {
         let source = trial.source.clone();
         let text = format!("the host ended without an answer: {end}\n");

@@ -8,6 +8,7 @@ pub mod blackout;
 pub mod compare;
 pub mod dice;
 pub mod host;
+pub mod lent;
 pub mod limits;
 pub mod lists;
 pub mod patterns;

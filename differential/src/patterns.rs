@@ -64,6 +64,7 @@ fn newlines_come_to(source: &[u8]) -> Answer {
         let next = if n + 1 < statements { number + 2 } else { 0 };
         answer.nodes.push([17, 0, 0, 0, 0, 0, 0, 0, 0]);
         answer.nodes.push([30, 0, 0, 0, empty, 0, 0, 0, next]);
+        answer.so_far.push([0, 2 * n]);
     }
     if source.len() % 2 == 1 {
         answer.errors.push([4, source.len() as u32 + 1, 0]);
@@ -95,6 +96,7 @@ fn sets_come_to(source: &[u8]) -> Answer {
     nodes.push([30, token, 0, 0, node, 0, 0, 0, 0]);
     answer.first = node + 1;
     answer.statements = 1;
+    answer.so_far = vec![[0, 0]];
     answer
 }
 

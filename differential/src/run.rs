@@ -6,7 +6,7 @@ use std::fmt;
 use std::time::Instant;
 
 use crate::compare::{run, Call, Difference, Trial, Want};
-use crate::host::Host;
+use crate::host::{Host, ReadCall};
 use crate::whole::Wanted;
 
 /// How often a smaller script is tried: some that differ by their length alone can't get smaller.
@@ -44,6 +44,9 @@ impl Group {
                 Call::Lex(_, Want::Exact(lexing)) => format!("lex {}", lexing.outcome),
                 Call::Lex(_, Want::Open) => "lex ?".to_string(),
                 Call::Decode(_, decoding) => format!("decode {}", decoding.outcome),
+                Call::Read(ReadCall { pair: true, .. }, wanted) => {
+                    format!("pair {}", wanted.outcome())
+                }
                 Call::Read(_, wanted) => format!("read {}", wanted.outcome()),
             };
             *self.calls.entry(name).or_default() += 1;
@@ -76,8 +79,13 @@ impl Comparison {
     }
 
     pub fn telling(tell: fn(&Group)) -> Comparison {
+        Comparison::with(Host::start(), tell)
+    }
+
+    /// A comparison with a host of one's own.
+    pub fn with(host: Host, tell: fn(&Group)) -> Comparison {
         Comparison {
-            host: Host::start(),
+            host,
             groups: vec![],
             tell,
         }

@@ -11,6 +11,9 @@ use crate::compare::{table_differs, Call, Trial};
 use crate::dice::Dice;
 use crate::host::{ReadAnswer, ReadCall};
 
+/// The longest script that is read one statement at a time too.
+const LONG: usize = 4096;
+
 /// What a reading must come to.
 #[derive(Debug, Clone)]
 pub enum Wanted {
@@ -91,6 +94,7 @@ impl Tried {
     /// The same with these spare tails, in words.
     pub fn read_with(&mut self, rooms: [usize; 3], tails: [usize; 3]) {
         let call = ReadCall {
+            pair: false,
             token_words: 7 * rooms[0] + tails[0],
             error_words: 3 * rooms[1] + tails[1],
             node_words: 9 * rooms[2] + tails[2],
@@ -102,6 +106,11 @@ impl Tried {
             Kept::Told(answer) => Wanted::Exact(answer.clone(), None),
             Kept::Nothing => Wanted::Open,
         };
+        // Each read of one statement looks at all tokens: in a long script that takes long.
+        if self.trial.source.len() <= LONG {
+            let pair = ReadCall { pair: true, ..call };
+            self.trial.calls.push(Call::Read(pair, wanted.clone()));
+        }
         self.trial.calls.push(Call::Read(call, wanted));
     }
 
@@ -161,6 +170,9 @@ fn exact_differs(
     if let Some((name, ..)) = counts.iter().find(|(_, got, want)| got != want) {
         return Some(name.to_string());
     }
+    if let Some(what) = way_differs(call, expected, answer) {
+        return Some(what);
+    }
     // The trees first: they owe nothing to the numbering that the words have in common.
     let nodes = kept(answer).nodes;
     let trees = |whole: &Whole| whole.tree_differs(&nodes, answer.first, expected.statements);
@@ -177,7 +189,19 @@ fn exact_differs(
     )
 }
 
-/// Each table begins with these words and holds one word behind them; the guards are intact.
+/// What is answered on the way of a reading one statement at a time.
+fn way_differs(call: &ReadCall, expected: &Answer, answer: &ReadAnswer) -> Option<String> {
+    let first = expected.first;
+    let so_far = expected.so_far.iter().map(|&[errors, nodes]| {
+        let first = if nodes == 0 { 0 } else { first };
+        [count(&expected.tokens), errors, nodes, first]
+    });
+    let differs = call.pair && !so_far.eq(answer.so_far.iter().copied());
+    differs.then(|| "the answers before the last".to_string())
+}
+
+/// Each table begins with these words and holds one word behind them; the guards are intact, and a
+/// read behind the final answer changed nothing.
 fn words_differ(answer: &ReadAnswer, wanted: [(&[u32], u32); 3]) -> Option<String> {
     let tables = [
         ("token", &answer.token_table, 7),
@@ -190,7 +214,10 @@ fn words_differ(answer: &ReadAnswer, wanted: [(&[u32], u32); 3]) -> Option<Strin
             return Some(format!("the {name} table, word {word} of record {record}"));
         }
     }
-    (!answer.intact).then(|| "the guards round the tables".to_string())
+    if !answer.intact {
+        return Some("the guards round the tables".to_string());
+    }
+    (!answer.steady).then(|| "a read behind the final answer".to_string())
 }
 
 fn refused_differs(call: &ReadCall, outcome: u32, answer: &ReadAnswer) -> Option<String> {
@@ -224,6 +251,8 @@ fn open_differs(call: &ReadCall, answer: &ReadAnswer) -> Option<String> {
         Some("the error table behind the records".to_string())
     } else if !behind(&answer.node_table, 9 * answer.nodes, 0) {
         Some("the node table behind the records".to_string())
+    } else if !answer.steady {
+        Some("a read behind the final answer".to_string())
     } else {
         (!answer.intact).then(|| "the guards round the tables".to_string())
     }
@@ -252,7 +281,7 @@ fn kept(answer: &ReadAnswer) -> Answer {
             .collect(),
         nodes: nodes.iter().copied().take(answer.nodes as usize).collect(),
         first: answer.first,
-        statements: 0,
+        ..Answer::default()
     }
 }
 

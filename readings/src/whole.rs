@@ -48,6 +48,9 @@ pub struct Answer {
     pub first: u32,
     /// How many top-level statements are kept.
     pub statements: usize,
+    /// How many errors and nodes there are whenever a token before EOF is left to be read: before
+    /// the first statement, and behind others.
+    pub so_far: Vec<[u32; 2]>,
 }
 
 /// What is known about a source.
@@ -224,6 +227,7 @@ impl Parsing {
     fn within(&self, lexed: Answer, error_room: usize, node_room: usize) -> Answer {
         let (mut errors, mut nodes) = (lexed.errors.len(), 0);
         let (mut statements, mut kept) = (0, 0);
+        let mut so_far = vec![[errors as u32, 0]];
         let mut outcome = u32::from(self.stopped);
         for event in &self.events {
             match event {
@@ -232,11 +236,18 @@ impl Parsing {
                 Event::Level => outcome = 8,
                 Event::Error => errors += 1,
                 Event::Node(_) => nodes += 1,
-                Event::Statement => (statements, kept) = (statements + 1, nodes),
+                Event::Statement => {
+                    (statements, kept) = (statements + 1, nodes);
+                    so_far.push([errors as u32, nodes as u32]);
+                }
             }
             if outcome > 1 {
                 break;
             }
+        }
+        if outcome == 0 {
+            // Behind the last one comes EOF.
+            so_far.pop();
         }
         let mut nodes = self.nodes[..kept].to_vec();
         if let Some(last) = nodes.last_mut() {
@@ -250,6 +261,7 @@ impl Parsing {
             nodes,
             first: if statements == 0 { 0 } else { self.numbers[0] },
             statements,
+            so_far,
         }
     }
 }

@@ -183,6 +183,7 @@ impl Report {
                 let (behind, fill) = (dice.word() as u8, dice.word() as u32);
                 requests.push(Request::Source { bytes, behind });
                 requests.push(Request::Read(ReadCall {
+                    pair: false,
                     token_words,
                     error_words,
                     node_words,

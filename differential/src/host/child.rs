@@ -1,111 +1,30 @@
-//! Builds `host.c` with the library's archive and talks to it as a child process.
+//! Builds `host.c` with the library's archives and talks to it as a child process.
 //!
-//! The archive is for x86-64. There the system's `cc` links it; elsewhere the toolchain's own
-//! compiler and linker do, and its emulator runs the program. Both ways exercise the same archive
-//! and its C border. All tools are found from `rt` on the PATH.
+//! The archives are for x86-64. There the system's `cc` links them; elsewhere the toolchain's own
+//! compiler and linker do, and its emulator runs the program. Both ways exercise the same archives
+//! and their C border. All tools are found from `rt` on the PATH.
 
 use std::env;
 use std::ffi::OsString;
 use std::fs;
 use std::io::{self, BufReader, Read as _, Write as _};
 use std::path::{Path, PathBuf};
-use std::process::{self, Child, ChildStdin, ChildStdout, Command, Stdio};
+use std::process::{self, ChildStdin, ChildStdout, Command, Stdio};
 use std::sync::OnceLock;
 use std::thread;
 
-/// What the host is asked. A source stays set until the next one.
-#[derive(Debug, Clone)]
-pub enum Request<'a> {
-    /// The bytes to read, and a byte that is put behind them for a reader that goes too far.
-    Source {
-        bytes: &'a [u8],
-        behind: u8,
-    },
-    Lex(LexCall),
-    Decode(DecodeCall),
-    Read(ReadCall),
-}
-
-/// A call of `kettleplume_scan`: the tables' sizes in words, and the word they are filled with.
-#[derive(Debug, Clone, Copy)]
-pub struct LexCall {
-    pub token_words: usize,
-    pub error_words: usize,
-    pub fill: u32,
-}
-
-/// A call of `kettleplume_decode`: where, the buffer's size, and the byte it is filled with.
-#[derive(Debug, Clone, Copy)]
-pub struct DecodeCall {
-    pub start: u64,
-    pub room: usize,
-    pub fill: u8,
-}
-
-/// A call of `kettleplume_read`: the tables' sizes in words, and the word they are filled with.
-#[derive(Debug, Clone, Copy)]
-pub struct ReadCall {
-    pub token_words: usize,
-    pub error_words: usize,
-    pub node_words: usize,
-    pub fill: u32,
-}
-
-/// The answer of `kettleplume_scan` and the tables afterwards.
-#[derive(Debug, Clone)]
-pub struct LexAnswer {
-    pub outcome: u32,
-    pub tokens: u32,
-    pub errors: u32,
-    /// Whether the guards round the tables are as they were.
-    pub intact: bool,
-    pub token_table: Vec<u32>,
-    pub error_table: Vec<u32>,
-}
-
-/// The answer of `kettleplume_decode` and the buffer afterwards.
-#[derive(Debug, Clone)]
-pub struct DecodeAnswer {
-    pub outcome: u32,
-    pub length: u64,
-    /// Whether the guards round the buffer are as they were.
-    pub intact: bool,
-    pub buffer: Vec<u8>,
-}
-
-/// The answer of `kettleplume_read` and the tables afterwards.
-#[derive(Debug, Clone)]
-pub struct ReadAnswer {
-    pub outcome: u32,
-    pub tokens: u32,
-    pub errors: u32,
-    pub nodes: u32,
-    pub first: u32,
-    /// Whether the guards round the tables are as they were.
-    pub intact: bool,
-    pub token_table: Vec<u32>,
-    pub error_table: Vec<u32>,
-    pub node_table: Vec<u32>,
-}
-
-/// What the host answers; a `Source` has no answer.
-#[derive(Debug, Clone)]
-pub enum Answer {
-    Lex(LexAnswer),
-    Decode(DecodeAnswer),
-    Read(ReadAnswer),
-}
+use super::{Answer, DecodeAnswer, LexAnswer, ReadAnswer, Request};
 
 /// A running child.
-pub struct Host {
-    child: Child,
+pub struct Child {
+    child: process::Child,
     requests: Option<ChildStdin>,
     answers: BufReader<ChildStdout>,
 }
 
-impl Host {
+impl Child {
     /// Builds the host, once in each process, and starts a child of its own.
-    pub fn start() -> Host {
+    pub fn start() -> Child {
         static COMMAND: OnceLock<Vec<OsString>> = OnceLock::new();
         let words = COMMAND.get_or_init(build);
         let mut child = Command::new(&words[0])
@@ -116,7 +35,7 @@ impl Host {
             .unwrap_or_else(|error| panic!("{words:?} doesn't start: {error}"));
         let requests = child.stdin.take();
         let answers = BufReader::with_capacity(1 << 16, child.stdout.take().expect("a pipe"));
-        Host {
+        Child {
             child,
             requests,
             answers,
@@ -153,7 +72,7 @@ impl Host {
     }
 }
 
-impl Drop for Host {
+impl Drop for Child {
     /// The end of its input ends the child.
     fn drop(&mut self) {
         self.requests = None;
@@ -173,7 +92,8 @@ impl Request<'_> {
             }
             Request::Read(c) => {
                 let (tokens, errors) = (size(c.token_words), size(c.error_words));
-                [4, tokens, errors, size(c.node_words), c.fill]
+                let what = if c.pair { 5 } else { 4 };
+                [what, tokens, errors, size(c.node_words), c.fill]
             }
         };
         words
@@ -210,7 +130,8 @@ impl Request<'_> {
                 }))
             }
             Request::Read(call) => {
-                let head = words(from, 6)?;
+                let head = words(from, 8)?;
+                let so_far = words(from, 4 * head[7] as usize)?;
                 Some(Answer::Read(ReadAnswer {
                     outcome: head[0],
                     tokens: head[1],
@@ -218,6 +139,8 @@ impl Request<'_> {
                     nodes: head[3],
                     first: head[4],
                     intact: head[5] == 1,
+                    steady: head[6] == 1,
+                    so_far: so_far.as_chunks().0.to_vec(),
                     token_table: words(from, call.token_words)?,
                     error_table: words(from, call.error_words)?,
                     node_table: words(from, call.node_words)?,
@@ -234,15 +157,15 @@ fn words(from: &mut BufReader<ChildStdout>, count: usize) -> io::Result<Vec<u32>
     Ok(bytes.chunks_exact(4).map(word).collect())
 }
 
-/// Builds the archive and the host; the command that starts the host.
+/// Where the library's archives are.
+const ARCHIVES: &str = env!("KETTLEPLUME_ARCHIVES");
+
+/// Builds the host; the command that starts the host.
 fn build() -> Vec<OsString> {
     let rt = find_rt();
     let here = Path::new(env!("CARGO_MANIFEST_DIR"));
     let root = here.parent().expect("the crate lies in the repository");
-    run(Command::new(&rt)
-        .args(["staticlib", "reader"])
-        .current_dir(root));
-    let archive = root.join("target/staticlib/libreader.a");
+    let archives = ["libreader.a", "libpair.a"].map(|name| Path::new(ARCHIVES).join(name));
 
     // Below cargo's folder: `rt` removes its own. The name is this process's own until the program
     // is complete, for two processes may build at the same time.
@@ -255,10 +178,11 @@ fn build() -> Vec<OsString> {
     let words = if env::consts::ARCH == "x86_64" {
         run(Command::new("cc")
             .args(["-O2", "-o"])
-            .args([&fresh, &source, &archive]));
+            .args([&fresh, &source])
+            .args(&archives));
         vec![program.clone().into()]
     } else {
-        Toolchain::of(&rt).build(&source, &archive, &fresh);
+        Toolchain::of(&rt).build(&source, &archives, &fresh);
         Toolchain::of(&rt).command(&program)
     };
     fs::rename(&fresh, &program).unwrap_or_else(|error| panic!("no {program:?}: {error}"));
@@ -298,7 +222,7 @@ impl Toolchain {
         self.0.join("lib").join(name)
     }
 
-    fn build(&self, source: &Path, archive: &Path, program: &Path) {
+    fn build(&self, source: &Path, archives: &[PathBuf], program: &Path) {
         let object = program.with_extension(format!("{}.o", process::id()));
         run(Command::new(self.bin("clang"))
             .args(["--target=x86_64-unknown-linux-gnu", "-O2", "-c", "-o"])
@@ -308,7 +232,8 @@ impl Toolchain {
             .arg("-o")
             .arg(program)
             .args(["Scrt1.o", "crti.o", "crtbeginS.o"].map(|name| self.lib(name)))
-            .args([&object, archive])
+            .arg(&object)
+            .args(archives)
             .args(["libc.so.6", "libc_nonshared.a", "libgcc.a"].map(|name| self.lib(name)))
             .args(["crtendS.o", "crtn.o"].map(|name| self.lib(name))));
         let _ = fs::remove_file(object);

@@ -1,0 +1,152 @@
+//! Makes the calls in this process, through the crate `kettleplume`.
+
+use kettleplume::border::{self, Parser};
+
+use super::{Answer, DecodeAnswer, DecodeCall, LexAnswer, LexCall, ReadAnswer, ReadCall, Request};
+
+/// How many words or bytes stand on each side of a table.
+const GUARD: usize = 8;
+const GUARD_WORD: u32 = 0x5aa5_c33c;
+const GUARD_BYTE: u8 = 0x5a;
+
+/// The answer of a read that leaves a token before EOF.
+const MORE: u32 = 19;
+
+/// The source that the next calls are about, with what stands behind it.
+#[derive(Default)]
+pub struct Here {
+    source: Vec<u8>,
+    length: usize,
+}
+
+impl Here {
+    pub fn new() -> Here {
+        Here::default()
+    }
+
+    pub fn ask(&mut self, requests: &[Request], mut each: impl FnMut(usize, Answer)) {
+        for (index, request) in requests.iter().enumerate() {
+            let source = &self.source[..self.length];
+            match request {
+                Request::Source { bytes, behind } => {
+                    self.source.clear();
+                    self.source.extend_from_slice(bytes);
+                    self.source.extend_from_slice(&[*behind; GUARD]);
+                    self.length = bytes.len();
+                }
+                Request::Lex(call) => each(index, Answer::Lex(lex(source, call))),
+                Request::Decode(call) => each(index, Answer::Decode(decode(source, call))),
+                Request::Read(call) => each(index, Answer::Read(read(source, call))),
+            }
+        }
+    }
+}
+
+/// A table between two guards.
+struct Guarded<T> {
+    all: Vec<T>,
+    guard: T,
+}
+
+impl<T: Copy + PartialEq> Guarded<T> {
+    fn new(size: usize, fill: T, guard: T) -> Guarded<T> {
+        let mut all = vec![fill; size + 2 * GUARD];
+        all[..GUARD].fill(guard);
+        all[GUARD + size..].fill(guard);
+        Guarded { all, guard }
+    }
+
+    fn lent(&mut self) -> &mut [T] {
+        let end = self.all.len() - GUARD;
+        &mut self.all[GUARD..end]
+    }
+
+    fn intact(&self) -> bool {
+        let end = self.all.len() - GUARD;
+        let mut guards = self.all[..GUARD].iter().chain(&self.all[end..]);
+        guards.all(|word| *word == self.guard)
+    }
+
+    /// The table without its guards.
+    fn table(mut self) -> Vec<T> {
+        self.all.truncate(self.all.len() - GUARD);
+        self.all.drain(..GUARD);
+        self.all
+    }
+}
+
+fn words(size: usize, fill: u32) -> Guarded<u32> {
+    Guarded::new(size, fill, GUARD_WORD)
+}
+
+fn lex(source: &[u8], call: &LexCall) -> LexAnswer {
+    let mut tokens = words(call.token_words, call.fill);
+    let mut errors = words(call.error_words, call.fill);
+    let answer = border::scan(source, tokens.lent(), errors.lent());
+    LexAnswer {
+        outcome: answer.outcome,
+        tokens: answer.tokens,
+        errors: answer.errors,
+        intact: tokens.intact() && errors.intact(),
+        token_table: tokens.table(),
+        error_table: errors.table(),
+    }
+}
+
+fn decode(source: &[u8], call: &DecodeCall) -> DecodeAnswer {
+    let mut buffer = Guarded::new(call.room, call.fill, GUARD_BYTE);
+    let answer = border::decode(source, call.start as usize, buffer.lent());
+    DecodeAnswer {
+        outcome: answer.outcome,
+        length: answer.length as u64,
+        intact: buffer.intact(),
+        buffer: buffer.table(),
+    }
+}
+
+fn read(source: &[u8], call: &ReadCall) -> ReadAnswer {
+    let mut tables =
+        [call.token_words, call.error_words, call.node_words].map(|size| words(size, call.fill));
+    let (answer, steady, so_far) = if call.pair {
+        one_at_a_time(source, &mut tables)
+    } else {
+        let [tokens, errors, nodes] = tables.each_mut().map(Guarded::lent);
+        (border::read(source, tokens, errors, nodes), true, vec![])
+    };
+    let intact = tables.iter().all(Guarded::intact);
+    let [token_table, error_table, node_table] = tables.map(Guarded::table);
+    ReadAnswer {
+        outcome: answer.outcome,
+        tokens: answer.tokens,
+        errors: answer.errors,
+        nodes: answer.nodes,
+        first: answer.first,
+        intact,
+        steady,
+        so_far,
+        token_table,
+        error_table,
+        node_table,
+    }
+}
+
+/// Begins and reads up to the final answer, then once more: the answer, whether that read gave it
+/// again and changed nothing, and what was answered on the way. A source of n bytes has its final
+/// answer after n + 2 reads, which is proved; a library that goes on is stopped.
+fn one_at_a_time(
+    source: &[u8],
+    tables: &mut [Guarded<u32>; 3],
+) -> (border::Answer, bool, Vec<[u32; 4]>) {
+    let mut parser = Parser::default();
+    let [tokens, errors, nodes] = tables.each_mut().map(Guarded::lent);
+    let mut answer = parser.begin(source, tokens, errors, nodes);
+    let mut so_far = vec![];
+    while answer.outcome == MORE && so_far.len() < source.len() + 3 {
+        so_far.push([answer.tokens, answer.errors, answer.nodes, answer.first]);
+        answer = parser.next(source, tokens, errors, nodes);
+    }
+    let kept = (parser, tokens.to_vec(), errors.to_vec(), nodes.to_vec());
+    let again = parser.next(source, tokens, errors, nodes);
+    let now = (parser, tokens.to_vec(), errors.to_vec(), nodes.to_vec());
+    (answer, again == answer && now == kept, so_far)
+}
