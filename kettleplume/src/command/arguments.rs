@@ -1,0 +1,109 @@
+//! What the command is asked for.
+
+use std::ffi::{OsStr, OsString};
+
+use super::letters::escaped;
+
+pub const USAGE: &str = "\
+usage: kettleplume read [--outline] FILE...
+       kettleplume --help | --version";
+
+pub const VERSION: &str = concat!("kettleplume ", env!("CARGO_PKG_VERSION"), "\n");
+
+pub const HELP: &str = "\
+Reads scripts of the language Grotsky and says what is found in them.
+
+usage: kettleplume read [--outline] FILE...
+       kettleplume --help | --version
+
+For each script its recorded errors are printed, in the order in which they were
+found, and then a line that says what came of the reading. An error has its file,
+line and column, the message, the line of the script, and a mark under the place.
+Columns count characters. Of an error that the parser finds only a line is known:
+it has no column and no mark. Where the mistake may as well stand at the end of the
+line before, that line is shown too.
+
+A line of more than 100 characters is cut around the place, with ... where something
+is left out. Characters that a terminal shouldn't be given are shown by others.
+
+A FILE that is - is standard input. After -- every word is a FILE.
+
+  --outline  prints instead what a reading keeps, in document 01's form: a line o
+             for the answer, then a line t for each token, e for each error and
+             n for each node. Of several files, each begins with a line f and its
+             name. A script for which the program outline has no room, up to
+             65,535 bytes, is printed in full.
+  --help     prints this
+  --version  prints the version
+
+Reports and outlines go to standard output. What is wrong with a file or with the
+words of the command goes to standard error, and the other files are still read. If
+standard error is a terminal and there are several files, a line there tells which
+one is being read.
+
+Exit status:
+  0  every script was read to its end and has no recorded error
+  1  some script has recorded errors or was not read to its end, be it that it is
+     too long or no text
+  2  the words of the command were not understood, a file could not be read, or
+     the output could not be written; 2 goes before 1
+";
+
+#[derive(Debug, PartialEq, Eq)]
+pub enum Task {
+    Help,
+    Version,
+    Read(Asked),
+}
+
+#[derive(Debug, Default, PartialEq, Eq)]
+pub struct Asked {
+    pub outline: bool,
+    pub files: Vec<OsString>,
+}
+
+/// The task that the words ask for, or what is wrong with them.
+pub fn task(mut words: impl Iterator<Item = OsString>) -> Result<Task, String> {
+    let Some(first) = words.next() else {
+        return Err("a command is missing".to_string());
+    };
+    match first.to_str() {
+        Some("--help") => Ok(Task::Help),
+        Some("--version") => Ok(Task::Version),
+        Some("read") => read(words),
+        _ => Err(format!("there is no command {}", quoted(&first))),
+    }
+}
+
+fn read(words: impl Iterator<Item = OsString>) -> Result<Task, String> {
+    let mut asked = Asked::default();
+    let mut options = true;
+    for word in words {
+        match word.to_str() {
+            Some("--") if options => options = false,
+            Some("--outline") if options => asked.outline = true,
+            Some("--help") if options => return Ok(Task::Help),
+            Some("--version") if options => return Ok(Task::Version),
+            _ if options && is_option(&word) => {
+                return Err(format!("there is no option {}", quoted(&word)))
+            }
+            _ => asked.files.push(word),
+        }
+    }
+    // Read again, it would be empty, and an empty script has no errors.
+    if asked.files.iter().filter(|file| *file == "-").count() > 1 {
+        return Err("standard input can be read only once".to_string());
+    }
+    match asked.files.is_empty() {
+        true => Err("a file to read is missing".to_string()),
+        false => Ok(Task::Read(asked)),
+    }
+}
+
+fn is_option(word: &OsStr) -> bool {
+    word.as_encoded_bytes().starts_with(b"-") && word != "-"
+}
+
+fn quoted(word: &OsStr) -> String {
+    format!("'{}'", escaped(&word.to_string_lossy()))
+}

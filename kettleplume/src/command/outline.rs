@@ -1,0 +1,39 @@
+//! What a reading keeps, in document 01's form. The crate `form` has it proved, for tables of the
+//! sizes that document 01 gives the program `outline`; these here are as large as the script needs.
+
+use std::fmt::Write as _;
+
+use kettleplume::Records;
+
+/// The answer, then the first four words of each token, each error and each node.
+pub fn outline(records: &Records) -> String {
+    let answer = records.answer;
+    let mut out = String::new();
+    line(
+        &mut out,
+        'o',
+        &[
+            answer.outcome,
+            answer.tokens,
+            answer.errors,
+            answer.nodes,
+            answer.first,
+        ],
+    );
+    records
+        .tokens
+        .iter()
+        .for_each(|t| line(&mut out, 't', &t[..4]));
+    records.errors.iter().for_each(|e| line(&mut out, 'e', e));
+    records.nodes.iter().for_each(|n| line(&mut out, 'n', n));
+    out
+}
+
+fn line(out: &mut String, letter: char, words: &[u32]) {
+    out.push(letter);
+    for word in words {
+        // Writing to a string doesn't fail.
+        let _ = write!(out, " {word}");
+    }
+    out.push('\n');
+}
