@@ -188,6 +188,8 @@ extern "C" {
 /// and theirs; compiled for another machine they keep to it, and the place is their first parameter.
 macro_rules! answering {
     ($($name:ident($($parameter:ident: $type:ty),*);)*) => {
+        // A slice is two parameters, so there are many.
+        #[allow(clippy::too_many_arguments)]
         mod c {
             use super::{Answer, Parser};
 

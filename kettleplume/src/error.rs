@@ -33,6 +33,8 @@ pub enum Error {
     /// No number of document 01's: the records are whole, but as trees, which repeat what records
     /// share, they would be larger than [`TREE_LIMIT`](crate::TREE_LIMIT) nodes.
     TreesTooLarge,
+    /// No number of document 01's: the tokens in a state are not those of the state's source.
+    OtherTokens,
 }
 
 impl Error {
@@ -72,7 +74,7 @@ impl Error {
             Error::NoString => 9,
             Error::BufferRoom => 10,
             Error::Mismatch => 18,
-            Error::TreesTooLarge => return None,
+            Error::TreesTooLarge | Error::OtherTokens => return None,
         })
     }
 }
@@ -98,6 +100,9 @@ impl fmt::Display for Error {
             }
             Error::TreesTooLarge => {
                 "the script repeats itself so deeply that its trees would be too large to build"
+            }
+            Error::OtherTokens => {
+                "the tokens are not those of the source that stands beside them: nothing was read"
             }
         })
     }

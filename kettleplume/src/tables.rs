@@ -1,6 +1,6 @@
 //! Tables of records that are large enough for any source.
 
-use crate::border::{self, Answer};
+use crate::border::{self, Answer, Scanned};
 
 /// The longest source that is read, in bytes.
 pub const LONGEST: usize = 65_535;
@@ -89,12 +89,36 @@ impl Tables {
             nodes: &nodes.as_chunks().0[..answer.nodes as usize],
         }
     }
+
+    /// Lexes a source without parsing it: the answer has no nodes and no first statement.
+    pub fn scan(&mut self, source: &[u8]) -> Records<'_> {
+        let rooms = Rooms::enough(source.len());
+        let token_words = lent(&mut self.tokens, TOKEN_WORDS * rooms.tokens);
+        let error_words = lent(&mut self.errors, ERROR_WORDS * rooms.errors);
+        let Scanned {
+            outcome,
+            tokens,
+            errors,
+        } = border::scan(source, token_words, error_words);
+        Records {
+            answer: Answer {
+                outcome,
+                tokens,
+                errors,
+                ..Answer::default()
+            },
+            tokens: &token_words.as_chunks().0[..tokens as usize],
+            errors: &error_words.as_chunks().0[..errors as usize],
+            nodes: &[],
+        }
+    }
 }
 
-/// So many words of a table, which grows if it has fewer.
+/// So many words of a table. If it has fewer, another takes its place: nothing has to be copied, and
+/// the system hands out zeros for less than it costs to write them.
 fn lent(table: &mut Vec<u32>, words: usize) -> &mut [u32] {
     if table.len() < words {
-        table.resize(words, 0);
+        *table = vec![0; words];
     }
     &mut table[..words]
 }

@@ -1,26 +1,344 @@
-use kettleplume::border::{decode, read, scan, Parser};
+//! The border: each function over tables of many sizes that lie between guard words. What it answers
+//! and every word that it leaves is what the original's reading comes to; nothing else is touched.
+
+use std::ops::Range;
+
+use kettleplume::border::{decode, read, scan, Answer, Decoded, Parser};
+use kettleplume::tables::{ERROR_WORDS, NODE_WORDS, TOKEN_WORDS};
+use readings::lexing::{expect, expect_decoding, Expected};
+use readings::whole::{self, known, Known};
+
+/// What stood in a table before.
+const BEFORE: u32 = 0x5a5a_5a5a;
+const GUARD: u32 = 0xfeed_face;
+/// How many guard words stand on each side.
+const GUARDS: usize = 16;
+
+/// A table between guard words.
+#[derive(Debug, Clone, PartialEq, Eq)]
+struct Guarded {
+    words: Vec<u32>,
+    range: Range<usize>,
+}
+
+impl Guarded {
+    fn new(length: usize) -> Guarded {
+        let range = GUARDS..GUARDS + length;
+        let mut words = vec![GUARD; length + 2 * GUARDS];
+        words[range.clone()].fill(BEFORE);
+        Guarded { words, range }
+    }
+
+    fn lent(&mut self) -> &mut [u32] {
+        &mut self.words[self.range.clone()]
+    }
+
+    /// The guards are whole, the records stand first, and each word behind them is `behind`.
+    fn holds<const N: usize>(&self, records: &[[u32; N]], behind: u32) {
+        let (before, after) = (&self.words[..GUARDS], &self.words[self.range.end..]);
+        assert!(before.iter().chain(after).all(|&word| word == GUARD));
+        let (kept, rest) = self.words[self.range.clone()].split_at(records.len() * N);
+        assert_eq!(kept, records.as_flattened());
+        assert!(rest.iter().all(|&word| word == behind), "{rest:x?}");
+    }
+}
+
+/// Three tables of so many records, each with a spare tail shorter than one.
+#[derive(Debug, Clone, PartialEq, Eq)]
+struct Lent {
+    tokens: Guarded,
+    errors: Guarded,
+    nodes: Guarded,
+}
+
+impl Lent {
+    fn new(rooms: [usize; 3], spare: usize) -> Lent {
+        let table = |room: usize, words: usize| Guarded::new(room * words + spare % words);
+        Lent {
+            tokens: table(rooms[0], TOKEN_WORDS),
+            errors: table(rooms[1], ERROR_WORDS),
+            nodes: table(rooms[2], NODE_WORDS),
+        }
+    }
+
+    fn read(&mut self, source: &[u8]) -> Answer {
+        let Lent {
+            tokens,
+            errors,
+            nodes,
+        } = self;
+        read(source, tokens.lent(), errors.lent(), nodes.lent())
+    }
+
+    fn begin(&mut self, parser: &mut Parser, source: &[u8]) -> Answer {
+        let Lent {
+            tokens,
+            errors,
+            nodes,
+        } = self;
+        parser.begin(source, tokens.lent(), errors.lent(), nodes.lent())
+    }
+
+    fn next(&mut self, parser: &mut Parser, source: &[u8]) -> Answer {
+        let Lent {
+            tokens,
+            errors,
+            nodes,
+        } = self;
+        parser.next(source, tokens.lent(), errors.lent(), nodes.lent())
+    }
+}
+
+/// Scripts with all outcomes but 3, 4 and 8; these come in tests of their own.
+const SCRIPTS: [&str; 12] = [
+    "",
+    "\n",
+    "a = 1\n",
+    "a\n\nb 1",
+    "! a @\n",
+    "a 1.5",
+    "a\n)\nb",
+    "fn f(a) { return a }\n",
+    "a.b[1:2] = \"x\\n\"\n",
+    "class A < B { f() 1 }\n",
+    "if a {} elif b {} else {}\n",
+    "(a b",
+];
+
+/// Rooms around what a reading needs: none, one less of each, just enough, one more, and a mixture.
+fn rooms(needs: [usize; 3]) -> Vec<[usize; 3]> {
+    let choices = needs.map(|n| [0, 1, n / 2, n.saturating_sub(1), n, n + 1]);
+    let mut all = vec![];
+    for tokens in choices[0] {
+        for errors in choices[1] {
+            all.extend(choices[2].map(|nodes| [tokens, errors, nodes]));
+        }
+    }
+    all.sort();
+    all.dedup();
+    all
+}
+
+/// Runs a test over each script, with rooms and spare tails of many sizes, and tells how often.
+fn over_tables(mut one: impl FnMut(&str, &whole::Whole, [usize; 3], usize)) -> usize {
+    let mut count = 0;
+    for script in SCRIPTS {
+        let Known::Read(whole) = known(script.as_bytes()) else {
+            panic!("{script:?} is read");
+        };
+        for (spare, rooms) in rooms(whole.needs()).into_iter().enumerate() {
+            for spare in [0, spare] {
+                one(script, &whole, rooms, spare);
+                count += 1;
+            }
+        }
+    }
+    count
+}
+
+fn counts(answer: &whole::Answer) -> Answer {
+    Answer {
+        outcome: answer.outcome,
+        tokens: answer.tokens.len() as u32,
+        errors: answer.errors.len() as u32,
+        nodes: answer.nodes.len() as u32,
+        first: answer.first,
+    }
+}
 
 #[test]
+fn whole_readings() {
+    let mut outcomes = [0; 9];
+    let count = over_tables(|script, whole, rooms, spare| {
+        let expected = whole.within(rooms);
+        let mut lent = Lent::new(rooms, spare);
+        let answer = lent.read(script.as_bytes());
+        assert_eq!(answer, counts(&expected), "{script:?} in {rooms:?}");
+        lent.tokens.holds(&expected.tokens, BEFORE);
+        lent.errors.holds(&expected.errors, BEFORE);
+        lent.nodes.holds(&expected.nodes, 0);
+        outcomes[answer.outcome as usize] += 1;
+    });
+    assert!(count > 1_000, "{count}");
+    for outcome in [0, 1, 2, 5, 6, 7] {
+        assert!(outcomes[outcome] > 5, "{outcomes:?}");
+    }
+}
+
+/// Statement by statement, the answers and tables come to those of the whole reading, and asking
+/// further changes nothing.
+#[test]
+fn statement_by_statement() {
+    let mut statements = 0;
+    over_tables(|script, _, rooms, spare| {
+        let source = script.as_bytes();
+        let (mut at_once, mut lent) = (Lent::new(rooms, spare), Lent::new(rooms, spare));
+        let whole = at_once.read(source);
+        // Whatever the parser was.
+        let mut parser = Parser {
+            current: 7,
+            ended: 1,
+            ..Parser::default()
+        };
+        let mut answer = lent.begin(&mut parser, source);
+        while answer.outcome == 19 {
+            answer = lent.next(&mut parser, source);
+            statements += 1;
+        }
+        let left = (answer, lent.clone(), parser);
+        assert_eq!(
+            (answer, &lent),
+            (whole, &at_once),
+            "{script:?} in {rooms:?}"
+        );
+        assert_eq!(lent.next(&mut parser, source), answer);
+        assert_eq!((answer, lent, parser), left);
+    });
+    assert!(statements > 500, "{statements}");
+}
+
+/// A parser that doesn't go with its tables: nothing is changed.
+#[test]
+fn a_parser_of_other_tables() {
+    let (mut lent, mut parser) = (Lent::new([5, 1, 9], 2), Parser::default());
+    let refused = Answer {
+        outcome: 18,
+        ..Answer::default()
+    };
+    let before = (lent.clone(), parser);
+    assert_eq!(lent.next(&mut parser, b"a = 1\n"), refused);
+    assert_eq!((lent, parser), before);
+    let mut lent = Lent::new([0, 0, 0], 0);
+    assert_eq!(lent.next(&mut parser, b"a = 1\n"), refused);
+    assert_eq!(lent, Lent::new([0, 0, 0], 0));
+}
+
+#[test]
+fn lexings() {
+    let count = over_tables(|script, _, rooms, spare| {
+        let Expected::Exact(lexing, _) = expect(script.as_bytes()) else {
+            panic!("{script:?} is lexed");
+        };
+        let expected = lexing.within(rooms[0], rooms[1]);
+        let mut lent = Lent::new(rooms, spare);
+        let (tokens, errors) = (lent.tokens.lent(), lent.errors.lent());
+        let answer = scan(script.as_bytes(), tokens, errors);
+        let counts = [answer.tokens as usize, answer.errors as usize];
+        assert_eq!(answer.outcome, expected.outcome, "{script:?} in {rooms:?}");
+        assert_eq!(counts, [expected.tokens.len(), expected.errors.len()]);
+        lent.tokens.holds(&expected.tokens, BEFORE);
+        lent.errors.holds(&expected.errors, BEFORE);
+    });
+    assert!(count > 1_000, "{count}");
+}
+
+/// What is refused for its bytes or its length changes no word.
+#[test]
+fn refused_sources() {
+    for (source, outcome) in [
+        (vec![0x80], 3),
+        (b"a = 1\n\xc3".to_vec(), 3),
+        (vec![b'a'; 65_536], 4),
+        (vec![0xff; 65_537], 4),
+    ] {
+        let refused = Answer {
+            outcome,
+            ..Answer::default()
+        };
+        for rooms in [[0, 0, 0], [3, 3, 3]] {
+            let before = Lent::new(rooms, 1);
+            let mut lent = before.clone();
+            assert_eq!(lent.read(&source), refused);
+            assert_eq!(lent.begin(&mut Parser::default(), &source), refused);
+            let answer = scan(&source, lent.tokens.lent(), lent.errors.lent());
+            assert_eq!(
+                (answer.outcome, answer.tokens, answer.errors),
+                (outcome, 0, 0)
+            );
+            assert_eq!(lent, before);
+        }
+    }
+}
+
+/// Too many levels: the statements before are kept, in tables that have room for more.
+#[test]
+fn too_many_levels() {
+    let script = "a\n".to_string() + &"{".repeat(129);
+    let mut lent = Lent::new([200, 9, 300], 4);
+    let answer = lent.read(script.as_bytes());
+    let kept = [answer.outcome, answer.errors, answer.nodes, answer.first];
+    assert_eq!(kept, [8, 0, 2, 2]);
+    let nodes = [[2, 1, 0, 0, 0, 0, 0, 0, 0], [30, 1, 0, 0, 1, 0, 0, 0, 0]];
+    lent.nodes.holds(&nodes, 0);
+}
+
+/// Strings decoded into buffers of many lengths, between guard bytes.
+#[test]
+fn decodings() {
+    let sources = [
+        "\"\"",
+        "\"a\\n\\t\\\\\\\"\"",
+        "a \"é\nb\" c",
+        "\"never closed",
+        "\"\\q\"",
+        "a",
+        "",
+    ];
+    let mut outcomes = [0; 11];
+    for source in sources {
+        for start in 0..source.len() + 2 {
+            for room in 0..8 {
+                let expected = expect_decoding(source.as_bytes(), start as u64, room);
+                let expected = expected.expect("the original can be asked");
+                let mut bytes = [0xa5; 24];
+                let answer = decode(source.as_bytes(), start, &mut bytes[8..8 + room]);
+                let length = expected.bytes.len();
+                let outcome = expected.outcome;
+                assert_eq!(answer, Decoded { outcome, length }, "{source:?} at {start}");
+                assert_eq!(bytes[8..8 + length], expected.bytes);
+                let rest = bytes[..8].iter().chain(&bytes[8 + length..]);
+                assert!(rest.into_iter().all(|&byte| byte == 0xa5));
+                outcomes[outcome as usize] += 1;
+            }
+        }
+    }
+    for outcome in [0, 9, 10] {
+        assert!(outcomes[outcome] > 5, "{outcomes:?}");
+    }
+}
+
+/// Document 01's worked example, word for word.
+#[test]
 fn worked_example() {
-    let source = b"a = 1\n";
-    let mut t = [7u32; 70];
-    let mut e = [7u32; 30];
-    let mut n = [7u32; 90];
-    let a = read(source, &mut t, &mut e, &mut n);
-    assert_eq!(
-        (a.outcome, a.tokens, a.errors, a.nodes, a.first),
-        (0, 5, 0, 4, 4)
+    let mut lent = Lent::new([10, 10, 10], 0);
+    let answer = lent.read(b"a = 1\n");
+    let expected = Answer {
+        outcome: 0,
+        tokens: 5,
+        errors: 0,
+        nodes: 4,
+        first: 4,
+    };
+    assert_eq!(answer, expected);
+    let one = 1f64.to_bits();
+    lent.tokens.holds(
+        &[
+            [25, 0, 1, 1, 0, 0, 0],
+            [19, 2, 1, 1, 0, 0, 0],
+            [27, 4, 1, 1, 2, one as u32, (one >> 32) as u32],
+            [1, 5, 1, 2, 0, 0, 0],
+            [0, 6, 0, 2, 0, 0, 0],
+        ],
+        BEFORE,
     );
-    let s = scan(source, &mut t, &mut e);
-    assert_eq!((s.outcome, s.tokens, s.errors), (0, 5, 0));
-    let mut b = [0u8; 9];
-    let d = decode(b"\"a\\n\"", 0, &mut b);
-    assert_eq!((d.outcome, d.length), (0, 2));
-    let mut p = Parser::default();
-    let (mut t2, mut e2, mut n2) = ([7u32; 70], [7u32; 30], [7u32; 90]);
-    let a1 = p.begin(source, &mut t2, &mut e2, &mut n2);
-    assert_eq!(a1.outcome, 19);
-    let a2 = p.next(source, &mut t2, &mut e2, &mut n2);
-    assert_eq!(a2, a);
-    assert_eq!((t2, e2, n2), (t, e, n));
+    lent.errors.holds::<ERROR_WORDS>(&[], BEFORE);
+    lent.nodes.holds(
+        &[
+            [2, 1, 0, 0, 0, 0, 0, 0, 0],
+            [13, 3, 0, 0, 0, 0, 0, 0, 0],
+            [5, 1, 0, 0, 2, 0, 0, 0, 0],
+            [30, 3, 0, 0, 3, 0, 0, 0, 0],
+        ],
+        0,
+    );
 }

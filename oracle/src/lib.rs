@@ -30,10 +30,16 @@ pub mod token;
 
 pub mod logged;
 
+/// The list stands once, with the crate that hands the texts out.
+#[path = "../../kettleplume/src/messages.rs"]
+pub mod messages;
+
 use std::cell::Cell;
 use std::panic::{self, AssertUnwindSafe};
 use std::sync::Once;
 use std::thread;
+
+pub use messages::MESSAGES;
 
 use lexer::Lexer;
 use parser::Parser;
@@ -163,40 +169,6 @@ pub fn on_large_stack<R: Send>(f: impl FnOnce() -> R + Send) -> R {
             .unwrap_or_else(|payload| panic::resume_unwind(payload))
     })
 }
-
-/// The messages of the original in the order of their numbers, 1 to 29. First the lexer's, then
-/// the parser's, each where it first stands in its file; 10 counts where `fn_stmt` has it.
-pub const MESSAGES: [&str; 29] = [
-    "'!' cannot be used here",
-    "Illegal character",
-    "Closing \" was expected",
-    "Expected new line",
-    "Expected variable name",
-    "Expected '{' at this position",
-    "Expected '}' at this position",
-    "Expected function name",
-    "Expect '(' after function name",
-    "Max number of parameters is 255",
-    "Expected function parameter",
-    "Expect ')' after expression",
-    "Expected '(' after function name",
-    "Expect function parameter",
-    "Expected semicolon",
-    "Empty expression or let was expected at this position",
-    "Expected 'in'",
-    "A catch block was expected at this position",
-    "Statement only allowed for use inside loop",
-    "Expected ']' at end of list",
-    "Expected '}' at the end of dict",
-    "Expected ':' after key",
-    "Undefined statement",
-    "Expected ']' at the end of slice",
-    "Expected property name after '.'",
-    "Expect ')' after arguments",
-    "Max number of arguments is 255",
-    "Undefined expression",
-    "Keyword 'super' is only valid for property accessing",
-];
 
 /// The number of a message, 1 to 29, or nothing if the original has no such text.
 pub fn message_number(text: &str) -> Option<u32> {

@@ -10,5 +10,11 @@ pub mod lexing;
 pub mod marks;
 pub mod nodes;
 pub mod scripts;
-pub mod unfold;
 pub mod whole;
+
+/// The way back from `nodes`: the file is the Rust crate's own, over the oracle's types. So what it
+/// makes of records is held against the original's trees, and not against a flattening of them.
+#[path = "../../kettleplume/src/unfold.rs"]
+pub mod unfold;
+
+pub use oracle::{expr, stmt, token};

@@ -1,0 +1,133 @@
+//! A whole script: from bytes to tokens, errors and statements.
+
+use std::mem;
+
+use crate::discard::discard;
+use crate::error::Error;
+use crate::state::InterpreterError;
+use crate::stmt::Stmt;
+use crate::tables::{Records, Tables};
+use crate::token::TokenData;
+use crate::{unfold, values, TREE_LIMIT};
+
+/// What a script was read to.
+///
+/// Where reading didn't come to the end there is what was read before: see [`end`](Script::end).
+///
+/// Statements can be some ten thousand levels deep, as in `a+a+a` and so on. A `Script` is dropped
+/// without going down them; what was moved out of one is best given to [`discard`]. Printing,
+/// cloning and comparing go down by recursion, as the original's types have it.
+#[derive(Debug, Clone)]
+pub struct Script {
+    /// All tokens, from the first to EOF.
+    pub tokens: Vec<TokenData>,
+    /// What the original records as errors: the lexer's, then the parser's.
+    pub errors: Vec<InterpreterError>,
+    /// The top-level statements.
+    pub stmts: Vec<Stmt>,
+    /// Whether reading came to the end of the script, which it does in spite of most errors.
+    ///
+    /// - [`Stopped`](Error::Stopped), where the original panics after an error, and
+    ///   [`TooDeep`](Error::TooDeep): tokens and errors are there, and the statements before the one
+    ///   in which that happened.
+    /// - [`PointAtEnd`](Error::PointAtEnd), where the original panics too: tokens and errors before
+    ///   that number are there, and no statement.
+    /// - [`NoText`](Error::NoText) and [`TooLong`](Error::TooLong): nothing is there.
+    /// - [`TreesTooLarge`](Error::TreesTooLarge): as for a stop. If reading stopped as well, behind
+    ///   those statements, the last error tells it.
+    pub end: Result<(), Error>,
+}
+
+/// Reads a script.
+///
+/// ```
+/// let script = kettleplume::read("stop = \"Gemshorn\"\n");
+/// assert_eq!(script.end, Ok(()));
+/// assert_eq!(script.tokens.len(), 5);
+/// assert_eq!(script.stmts.len(), 1);
+/// ```
+pub fn read(source: impl AsRef<[u8]>) -> Script {
+    read_with(&mut Tables::new(), source)
+}
+
+/// Reads a script with tables that are kept from one script to the next.
+///
+/// ```
+/// let mut tables = kettleplume::Tables::new();
+/// for source in ["a = 1\n", "b = 2\n"] {
+///     let script = kettleplume::read_with(&mut tables, source);
+///     assert_eq!(script.end, Ok(()));
+/// }
+/// ```
+pub fn read_with(tables: &mut Tables, source: impl AsRef<[u8]>) -> Script {
+    let source = source.as_ref();
+    let records = tables.read(source);
+    let tokens: Vec<_> = records
+        .tokens
+        .iter()
+        .map(|t| values::token(source, t))
+        .collect();
+    let (stmts, end) = statements(&records, &tokens);
+    Script {
+        errors: records.errors.iter().map(values::error).collect(),
+        tokens,
+        stmts,
+        end,
+    }
+}
+
+/// The statements of a reading, and how it ended.
+pub(crate) fn statements(
+    records: &Records,
+    tokens: &[TokenData],
+) -> (Vec<Stmt>, Result<(), Error>) {
+    let first = records.answer.first;
+    let unfolded = unfold::statements_within(TREE_LIMIT as u64, records.nodes, tokens, first);
+    // That the library's tables are well formed is proved, so there is nothing to tell here.
+    let (stmts, all) = unfolded.unwrap_or_else(|wrong| panic!("the library's nodes: {wrong}"));
+    let end = match all {
+        true => ended(records.answer.outcome),
+        false => Err(Error::TreesTooLarge),
+    };
+    (stmts, end)
+}
+
+/// How a reading ended, by its outcome.
+pub(crate) fn ended(outcome: u32) -> Result<(), Error> {
+    match outcome {
+        0 => Ok(()),
+        other => Err(Error::of(other).unwrap_or_else(|| panic!("the library answered {other}"))),
+    }
+}
+
+/// What a [`Script`] is made of, without its care for deep statements.
+#[derive(Debug, Clone)]
+pub struct Parts {
+    pub tokens: Vec<TokenData>,
+    pub errors: Vec<InterpreterError>,
+    pub stmts: Vec<Stmt>,
+    pub end: Result<(), Error>,
+}
+
+impl Script {
+    /// The parts, to be taken apart.
+    ///
+    /// ```
+    /// let kettleplume::Parts { stmts, .. } = kettleplume::read("a = 1\n").into_parts();
+    /// kettleplume::discard(stmts);
+    /// ```
+    pub fn into_parts(mut self) -> Parts {
+        Parts {
+            tokens: mem::take(&mut self.tokens),
+            errors: mem::take(&mut self.errors),
+            stmts: mem::take(&mut self.stmts),
+            end: self.end,
+        }
+    }
+}
+
+impl Drop for Script {
+    fn drop(&mut self) {
+        discard(mem::take(&mut self.stmts));
+    }
+}

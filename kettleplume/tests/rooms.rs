@@ -1,0 +1,125 @@
+//! `Rooms::enough` is enough: no reading ends for want of room.
+
+mod common;
+
+use kettleplume::border;
+use kettleplume::tables::{ERROR_WORDS, NODE_WORDS, TOKEN_WORDS};
+use kettleplume::{Error, Rooms, Tables, LONGEST};
+
+/// Reads a source with tables of just the rooms that are said to be enough.
+fn has_room(tables: &mut Tables, source: &[u8]) {
+    let outcome = tables.read(source).answer.outcome;
+    let shown = source.escape_ascii();
+    assert!(!matches!(outcome, 5..=7), "outcome {outcome} of {shown}");
+}
+
+/// All sequences of so many pieces.
+fn sequences(pieces: &[&str], length: u32, mut each: impl FnMut(&[u8])) -> usize {
+    let (base, count) = (pieces.len(), pieces.len().pow(length));
+    let mut source = vec![];
+    for number in 0..count {
+        source.clear();
+        let mut rest = number;
+        for _ in 0..length {
+            source.extend_from_slice(pieces[rest % base].as_bytes());
+            rest /= base;
+        }
+        each(&source);
+    }
+    count
+}
+
+#[test]
+fn scripts_find_room() {
+    let mut tables = Tables::new();
+    for script in common::scripts() {
+        has_room(&mut tables, script.as_bytes());
+    }
+}
+
+/// Every byte that means something, and one that means nothing.
+#[test]
+fn short_sources_find_room() {
+    let bytes = [
+        "a", "1", "\"", "\\", "#", "\n", " ", "(", ")", "[", "]", "{", "}", ",", ".", "-", ":",
+        ";", "=", "!", "<", "@",
+    ];
+    let mut tables = Tables::new();
+    let mut count = 0;
+    for length in 0..=4 {
+        count += sequences(&bytes, length, |source| has_room(&mut tables, source));
+    }
+    assert_eq!(count, 1 + 22 + 22 * 22 + 22 * 22 * 22 + 22 * 22 * 22 * 22);
+}
+
+/// Tokens as close together as they can stand: each mark, and words that are the shortest of their
+/// sort. So there are as many nodes and errors for a byte as can be.
+#[test]
+fn dense_sources_find_room() {
+    let tokens = [
+        "a ", "1", "\n", "(", "[", "{", "}", ".a", "-", ":", "=", "<", "fn ", "if ", "for ",
+        "let ", "class ", "super",
+    ];
+    let mut tables = Tables::new();
+    let mut count = 0;
+    for length in 0..=4 {
+        count += sequences(&tokens, length, |source| has_room(&mut tables, source));
+    }
+    assert_eq!(count, 1 + 18 + 18 * 18 + 18 * 18 * 18 + 18 * 18 * 18 * 18);
+}
+
+/// What has most of something for its length, as long as can be.
+#[test]
+fn long_sources_find_room() {
+    let mut tables = Tables::new();
+    for piece in [
+        "a", "1a", "a\n", "(", "(1", "1(", "!", "\"\\q", "{}", "[]", "-", "a=", "a.b=1\n", "a()",
+        "fn a()1", "class<", "for;1", "if 1", "1:", ".", "break ", "{1", "}",
+    ] {
+        let source = piece.repeat(LONGEST / piece.len());
+        has_room(&mut tables, source.as_bytes());
+    }
+}
+
+/// Newlines are walked anew at each look, by the original and so by the library: 65,535 take it many
+/// seconds.
+#[test]
+fn newlines_find_room() {
+    let mut tables = Tables::new();
+    for count in (0..64).chain([4_000]) {
+        has_room(&mut tables, "\n".repeat(count).as_bytes());
+    }
+}
+
+/// The bound for tokens is met wherever each byte is a token of its own, and one room less is not
+/// enough.
+#[test]
+fn the_bound_for_tokens_is_met() {
+    for source in ["a", "a1", "a1+[]"] {
+        let rooms = Rooms::enough(source.len());
+        let read = |tokens: usize| {
+            let mut tokens = vec![0; TOKEN_WORDS * tokens];
+            let mut errors = vec![0; ERROR_WORDS * rooms.errors];
+            let mut nodes = vec![0; NODE_WORDS * rooms.nodes];
+            border::read(source.as_bytes(), &mut tokens, &mut errors, &mut nodes)
+        };
+        let answer = read(rooms.tokens);
+        assert_eq!((answer.outcome, answer.tokens as usize), (0, rooms.tokens));
+        assert_eq!(read(rooms.tokens - 1).outcome, 5);
+    }
+}
+
+#[test]
+fn what_is_too_long_needs_no_room() {
+    assert_eq!(
+        Rooms::enough(LONGEST + 1),
+        Rooms {
+            tokens: 0,
+            errors: 0,
+            nodes: 0
+        }
+    );
+    let script = kettleplume::read(vec![b'a'; LONGEST + 1]);
+    assert_eq!(script.end, Err(Error::TooLong));
+    assert_eq!(kettleplume::read(vec![b'a'; LONGEST]).end, Ok(()));
+}

@@ -1,0 +1,115 @@
+//! The safe call gives what the original gives: tokens, errors, statements, and where it stops.
+
+mod common;
+
+use kettleplume::{read, read_with, Error, Tables};
+use oracle::{on_large_stack, Reading, Stop};
+
+/// How many scripts ended in each way.
+#[derive(Debug, Default)]
+struct Ends {
+    clean: usize,
+    with_errors: usize,
+    stopped: usize,
+    at_point: usize,
+    too_deep: usize,
+}
+
+/// The types are two, compiled from the same files; what they print is the same if they are.
+fn same<A: std::fmt::Debug, B: std::fmt::Debug>(ours: &[A], original: &[B], what: &str) {
+    assert_eq!(format!("{ours:?}"), format!("{original:?}"), "{what}");
+}
+
+fn compare(script: &str, tables: &mut Tables, ends: &mut Ends) {
+    let ours = read_with(tables, script);
+    let original: Reading = oracle::read(script);
+    let what = format!("of {script:?}");
+    same(&ours.tokens, &original.tokens, &what);
+    // The original goes on where a level too many opens: then only what came before is compared.
+    let (errors, stmts) = match ours.end {
+        Err(Error::TooDeep) => (ours.errors.len(), ours.stmts.len()),
+        _ => (original.errors.len(), original.stmts.len()),
+    };
+    same(&ours.errors, &original.errors[..errors], &what);
+    same(&ours.stmts, &original.stmts[..stmts], &what);
+    let (count, stop) = match ours.end {
+        Err(Error::TooDeep) => return ends.too_deep += 1,
+        Ok(()) if ours.errors.is_empty() => (&mut ends.clean, Stop::None),
+        Ok(()) => (&mut ends.with_errors, Stop::None),
+        Err(Error::Stopped) => (&mut ends.stopped, Stop::Parsing),
+        Err(Error::PointAtEnd) => (&mut ends.at_point, Stop::Lexing),
+        Err(other) => panic!("{other} {what}"),
+    };
+    *count += 1;
+    assert_eq!(original.stop, stop, "{what}");
+}
+
+#[test]
+fn reads_what_the_original_reads() {
+    on_large_stack(|| {
+        let (mut tables, mut ends) = (Tables::new(), Ends::default());
+        for script in common::scripts() {
+            compare(&script, &mut tables, &mut ends);
+        }
+        println!("{ends:?}");
+        // Each way has to be tried often enough to mean something.
+        assert!(ends.clean > 1000 && ends.with_errors > 1000, "{ends:?}");
+        assert!(ends.stopped > 1000 && ends.at_point > 20, "{ends:?}");
+        assert!(ends.too_deep > 10, "{ends:?}");
+    });
+}
+
+/// Tables that were used before make no difference, nor do larger ones.
+#[test]
+fn tables_are_used_again() {
+    let mut tables = Tables::new();
+    for script in ["a = [1, 2, 3]\n", "b(", "", "\"s\"", "a = [1, 2, 3, 4]\n"] {
+        let again = read_with(&mut tables, script);
+        assert_eq!(format!("{again:?}"), format!("{:?}", read(script)));
+    }
+}
+
+/// Text, a string and bytes are all sources.
+#[test]
+fn sources_of_each_type() {
+    let text = "a = \"é\"\n";
+    let expected = format!("{:?}", read(text));
+    let string = String::from(text);
+    assert_eq!(format!("{:?}", read(string)), expected);
+    assert_eq!(format!("{:?}", read(text.as_bytes())), expected);
+}
+
+#[test]
+fn refusals_keep_nothing() {
+    for (source, error) in [
+        (b"a = \x80\n".to_vec(), Error::NoText),
+        (b"a = \xc3".to_vec(), Error::NoText),
+        (vec![b' '; 65_536], Error::TooLong),
+        (vec![0xff; 65_536], Error::TooLong),
+    ] {
+        let script = read(source);
+        assert_eq!(script.end, Err(error));
+        let kept = [script.tokens.len(), script.errors.len(), script.stmts.len()];
+        assert_eq!(kept, [0, 0, 0], "{error}");
+    }
+}
+
+/// The text test passes bytes that Rust's doesn't. They become U+FFFD, as `from_utf8_lossy` has it.
+#[test]
+fn bytes_that_are_text_for_the_library_alone() {
+    let script = read(b"a = \"x\xed\xa0\x80y\" # \xed\xa0\x80\n");
+    assert_eq!(script.end, Ok(()));
+    let string = &script.tokens[2];
+    assert_eq!(string.lexeme, "\"x\u{fffd}\u{fffd}\u{fffd}y\"");
+    let literal = format!("{:?}", string.literal);
+    assert_eq!(literal, "Some(String(\"x\u{fffd}\u{fffd}\u{fffd}y\"))");
+    assert_eq!((script.stmts.len(), script.errors.len()), (1, 0));
+}
+
+#[test]
+fn parts() {
+    let parts = read("a\nb)\n").into_parts();
+    assert_eq!(parts.end, Err(Error::Stopped));
+    let counts = [parts.tokens.len(), parts.errors.len(), parts.stmts.len()];
+    assert_eq!(counts, [6, 2, 2]);
+}
