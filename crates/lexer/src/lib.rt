@@ -310,6 +310,25 @@ fn item_at(s: &[u8], i: usize) -> Item
     ensures { λ r. ⌜ r ≡ itemAt (drop i (now (s .entry))) ⌝ }
 {
     let c = s[i];
+    if c == b' ' {
+        return Item::Space;
+    }
+    if c == b'\n' {
+        return Item::Mark {
+            kind: Token::NEWLINE,
+            size: 1,
+            lines: 1,
+        };
+    }
+    item_of(s, i)
+}
+
+// By the class of its first byte.
+fn item_of(s: &[u8], i: usize) -> Item
+    requires { ⌜ i < length (now s) ⌝ }
+    ensures { λ r. ⌜ r ≡ itemAt (drop i (now (s .entry))) ⌝ }
+{
+    let c = s[i];
     if spans::is_alpha(c) {
         return identifier(s, i);
     }

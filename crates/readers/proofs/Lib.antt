@@ -3,6 +3,7 @@ pub mod Steps
 pub mod NextKind
 pub mod Then
 pub mod Begins
+pub mod Starts
 pub mod Prefix
 pub mod Else
 pub mod CallTurns

@@ -2,6 +2,7 @@
 use mathlib.Core.Path.{_≡_, refl, sym, ap, _∙_}
 use mathlib.Core.Bool.{Bool, true, false, _||_}
 use mathlib.Core.List.{List, [], _∷_}
+use mathlib.Core.Logic.{⊎-elim}
 use Prim.Native.Nat.{ℕ, zero, suc, _+_, _-_, _<_, _≤_}
 use native.Mathlib.Omega.{arith}
 use lib.Dec.{eqb, leb, ltb}
@@ -23,6 +24,7 @@ use Rattle.readers.specs.Pieces.{among, rankIn, binaryAt}
 use Rattle.parser.proofs.Look.{run-many}
 use Rattle.parser.proofs.Moves.{never}
 use Rattle.readers.proofs.NextKind.{Next, match-here, match-other, Each, of-each}
+use Rattle.records.proofs.Room.{lt-or-le}
 use Rattle.readers.proofs.Turns.{next-past}
 use Rattle.readers.proofs.Then.{then-then, then-give, then-same}
 
@@ -207,3 +209,45 @@ module _ (T : List ℕ) (low : Which → Reader) (looser : ℕ) where
         let q : r - looser - 1 ≡ r - 1 - looser = omega arith in
         let u = onward-missing T low f g p E N (drop looser levels) (r - looser - 1) (omega (arith, length-levels looser)) (ap (λ (l : Level). matchesMany T (p .current) (l .operators)) level ∙ level-missing T (p .current) kind j x (r - 1) (omega arith) (λ t. e (t ∙ s))) in
         ap (λ (n : ℕ). run T low (onward T (suc f) (drop looser levels) n g) p E N) (sym m) ∙ u ∙ ap (λ (n : ℕ). run T low (onward T (fuel T) (drop looser levels) n g) p E N) q
+
+  -- ---- many levels at once
+  -- the loops of the levels above m end at once
+  record Reached (g : Found) (p : Parser) (E N : List ℕ) (f r m : ℕ) : Type 0 where
+    fuelled : ℕ
+    enough : count T - p .current ≤ fuelled
+    same : run T low (onward T (suc f) (drop looser levels) (r - looser) g) p E N ≡ run T low (onward T (suc fuelled) (drop looser levels) (m - looser) g) p E N
+
+  -- an operator of level rank, after a left operand that loops up to level r may go on with: it is read there, and level rank is then the tightest that is open
+  pub record Turned (g : Found) (p : Parser) (E N : List ℕ) (j f r rank : ℕ) : Type 0 where
+    pub fuelled : ℕ
+    pub enough : count T - p .current ≤ fuelled
+    pub same :
+        run T low (onward T (suc f) (drop looser levels) (r - looser) g) p E N ≡ andThen (run T low (binaryAt T rank) (moved p j) E N) λ right q E N. andThen (pushNode (rowIf (leb rank 2) (logicalRow (g .node) j (right .node)) (binaryRow (g .node) j (right .node))) q E N) λ o q E N. run T low (onward T fuelled (drop looser levels) (rank - looser) o) q E N
+
+  module _ (g : Found) (p : Parser) (E N : List ℕ) (kind j : ℕ) (x : Next T (p .current) kind j) where
+    down : (n m f : ℕ) → looser ≤ m → m + n ≤ 7 → count T - p .current ≤ f → ((r : ℕ) → m < r → r ≤ m + n → rankIn 1 levels kind ≡ r → ⊥) → Reached g p E N f (m + n) m
+    down zero m f a b e h = let z : m + 0 - looser ≡ m - looser = omega arith in record { fuelled = f; enough = e; same = ap (λ (n : ℕ). run T low (onward T (suc f) (drop looser levels) n g) p E N) z }
+    down (suc n) m f a b e h =
+        let s = turn-missing f (m + suc n) g p E N kind j x (omega arith) b (h (m + suc n) (omega arith) (omega arith)) in
+        let z : m + suc n - 1 - looser ≡ m + n - looser = omega arith in
+        let d = down n m (count T) a (omega arith) (omega arith) (λ r c d. h r c (omega arith)) in
+        record { fuelled = d .fuelled; enough = d .enough; same = s ∙ ap (λ (n : ℕ). run T low (onward T (fuel T) (drop looser levels) n g) p E N) z ∙ d .same }
+
+    pub turns-found : (f r rank : ℕ) → looser < rank → rank ≤ r → r ≤ 7 → count T - p .current ≤ f → rankIn 1 levels kind ≡ rank → Turned g p E N j f r rank
+    turns-found f r rank a b c e k =
+        let z : r - looser ≡ rank + (r - rank) - looser = omega arith in
+        let d = down (r - rank) rank f (omega arith) (omega arith) e (λ y l m i. absurd (omega (arith, k, i))) in
+        record { fuelled = d .fuelled; enough = d .enough; same = ap (λ (n : ℕ). run T low (onward T (suc f) (drop looser levels) n g) p E N) z ∙ d .same ∙ turn-found (d .fuelled) rank g p E N kind j x a (omega arith) k }
+
+    -- no operator that is read here
+    pub turns-over : (f r : ℕ) → r ≤ 7 → count T - p .current ≤ f → ((y : ℕ) → looser < y → y ≤ r → rankIn 1 levels kind ≡ y → ⊥) → run T low (onward T (suc f) (drop looser levels) (r - looser) g) p E N ≡ read p (Node g) E N
+    turns-over f r c e h = ⊎-elim below above (lt-or-le looser r)
+      where
+        below : looser < r → run T low (onward T (suc f) (drop looser levels) (r - looser) g) p E N ≡ read p (Node g) E N
+        below l =
+            let z : r - looser ≡ looser + (r - looser) - looser = omega arith in
+            let d = down (r - looser) looser f (omega arith) (omega arith) e (λ y m n. h y m (omega arith)) in
+            ap (λ (n : ℕ). run T low (onward T (suc f) (drop looser levels) n g) p E N) z ∙ d .same ∙ turns-none (suc (d .fuelled)) looser g p E N (omega arith)
+
+        above : r ≤ looser → run T low (onward T (suc f) (drop looser levels) (r - looser) g) p E N ≡ read p (Node g) E N
+        above l = turns-none (suc f) r g p E N l

@@ -50,6 +50,16 @@ fn gives_form(p: Parser, n: u32, form: Form, access: u32) -> Out
     }
 }
 
+// What was found.
+fn found(p: Parser, f: Found) -> Out
+    ensures { λ r. ⌜ r ≡ record { p = p; got = Got.Node f } ⌝ }
+{
+    Out {
+        p,
+        got: Got::Node(f),
+    }
+}
+
 // The `last` of an expression statement: none if the expression is Empty.
 fn last_of(form: Form, t: u32) -> u32
     ensures { λ r. ⌜ r ≡ lastOf form t ⌝ }
@@ -790,28 +800,31 @@ fn stmt(tokens: &[u32], errors: &mut [u32], nodes: &mut [u32], p: Parser, levels
     ensures { λ r. ⌜ read (r .p) (r .got) (now (errors .exit)) (now (nodes .exit)) ≡ reads (now (tokens .entry)) levels (specs.statement (now (tokens .entry))) p (now (errors .entry)) (now (nodes .entry)) ⌝ }
 {
     let at = p.current;
-    if let Seen::At(i) = parser::matches(tokens, at, Token::FOR) {
+    let n = parser::skip(tokens, at);
+    let kind = parser::kind_at(tokens, n);
+    let i = parser::next(tokens, n);
+    if kind == Token::FOR {
         return for_loop(tokens, errors, nodes, p.at_token(i), levels, i);
     }
-    if let Seen::At(i) = parser::matches(tokens, at, Token::TRY) {
+    if kind == Token::TRY {
         return try_catch(tokens, errors, nodes, p.at_token(i), levels);
     }
-    if let Seen::At(i) = parser::matches(tokens, at, Token::IF) {
+    if kind == Token::IF {
         return if_stmt(tokens, errors, nodes, p.at_token(i), levels, i);
     }
-    if let Seen::At(i) = parser::matches(tokens, at, Token::RETURN) {
+    if kind == Token::RETURN {
         return ret(tokens, errors, nodes, p.at_token(i), levels, i);
     }
-    if let Seen::At(i) = parser::matches(tokens, at, Token::BREAK) {
+    if kind == Token::BREAK {
         return jump(tokens, errors, nodes, p.at_token(i), 28, i);
     }
-    if let Seen::At(i) = parser::matches(tokens, at, Token::CONTINUE) {
+    if kind == Token::CONTINUE {
         return jump(tokens, errors, nodes, p.at_token(i), 26, i);
     }
-    if let Seen::At(i) = parser::matches(tokens, at, Token::WHILE) {
+    if kind == Token::WHILE {
         return while_stmt(tokens, errors, nodes, p.at_token(i), levels, i);
     }
-    if let Seen::At(i) = parser::matches(tokens, at, Token::LEFT_CURLY_BRACE) {
+    if kind == Token::LEFT_CURLY_BRACE {
         let g = block(tokens, errors, nodes, p.at_token(i), levels);
         let k = g.got;
         let Got::Node(b) = k else {
@@ -838,13 +851,16 @@ pub fn declaration(
         return parser::stopped(p, 8);
     }
     let at = p.current;
-    if let Seen::At(i) = parser::matches(tokens, at, Token::CLASS) {
+    let n = parser::skip(tokens, at);
+    let kind = parser::kind_at(tokens, n);
+    let i = parser::next(tokens, n);
+    if kind == Token::CLASS {
         return class(tokens, errors, nodes, p.at_token(i), levels - 1);
     }
-    if let Seen::At(i) = parser::matches(tokens, at, Token::FN) {
+    if kind == Token::FN {
         return fn_stmt(tokens, errors, nodes, p.at_token(i), levels - 1);
     }
-    if let Seen::At(i) = parser::matches(tokens, at, Token::LET) {
+    if kind == Token::LET {
         return let_stmt(tokens, errors, nodes, p.at_token(i), levels - 1);
     }
     stmt(tokens, errors, nodes, p, levels - 1)
@@ -1424,13 +1440,14 @@ fn get(tokens: &[u32], errors: &mut [u32], nodes: &mut [u32], p: Parser, object:
 fn call(tokens: &[u32], errors: &mut [u32], nodes: &mut [u32], p: Parser, levels: u32) -> Out
     ensures { λ r. ⌜ read (r .p) (r .got) (now (errors .exit)) (now (nodes .exit)) ≡ reads (now (tokens .entry)) levels (specs.call (now (tokens .entry))) p (now (errors .entry)) (now (nodes .entry)) ⌝ }
 {
-    let mut g = primary(tokens, errors, nodes, p, levels);
+    let g = primary(tokens, errors, nodes, p, levels);
+    let k = g.got;
+    let Got::Node(first) = k else {
+        return g;
+    };
+    let mut e = first;
+    let mut q = g.p;
     loop {
-        let k = g.got;
-        let Got::Node(e) = k else {
-            return g;
-        };
-        let q = g.p;
         let at = q.current;
         let i = parser::skip(tokens, at);
         let kind = parser::kind_at(tokens, i);
@@ -1444,13 +1461,31 @@ fn call(tokens: &[u32], errors: &mut [u32], nodes: &mut [u32], p: Parser, levels
                 levels,
                 Token::RIGHT_PAREN,
             );
-            g = finish_call(tokens, errors, nodes, args, e.node);
+            let h = finish_call(tokens, errors, nodes, args, e.node);
+            let kh = h.got;
+            let Got::Node(n) = kh else {
+                return h;
+            };
+            e = n;
+            q = h.p;
         } else if kind == Token::DOT {
-            g = get(tokens, errors, nodes, q.at_token(j), e.node);
+            let h = get(tokens, errors, nodes, q.at_token(j), e.node);
+            let kh = h.got;
+            let Got::Node(n) = kh else {
+                return h;
+            };
+            e = n;
+            q = h.p;
         } else if kind == Token::LEFT_BRACE {
-            g = access(tokens, errors, nodes, q.at_token(j), levels, e, j);
+            let h = access(tokens, errors, nodes, q.at_token(j), levels, e, j);
+            let kh = h.got;
+            let Got::Node(n) = kh else {
+                return h;
+            };
+            e = n;
+            q = h.p;
         } else {
-            return g;
+            return found(q, e);
         }
     }
 }
@@ -1512,31 +1547,41 @@ fn binary(
 ) -> Out
     ensures { λ r. ⌜ read (r .p) (r .got) (now (errors .exit)) (now (nodes .exit)) ≡ reads (now (tokens .entry)) levels (binaryAt (now (tokens .entry)) looser) p (now (errors .entry)) (now (nodes .entry)) ⌝ }
 {
-    let mut left = unary(tokens, errors, nodes, p, levels);
+    let g = unary(tokens, errors, nodes, p, levels);
+    let k = g.got;
+    let Got::Node(first) = k else {
+        return g;
+    };
+    let mut left = first;
+    let mut s = g.p;
     let mut r: u32 = 7;
-    while looser < r {
-        let k = left.got;
-        let Got::Node(e) = k else {
-            return left;
-        };
-        let s = left.p;
+    loop {
         let at = s.current;
         let i = parser::skip(tokens, at);
         let kind = parser::kind_at(tokens, i);
-        if rank_of(kind) == r {
-            let j = parser::next(tokens, i);
-            let h = binary(tokens, errors, nodes, s.at_token(j), levels, r);
-            let k = h.got;
-            let Got::Node(right) = k else {
-                return h;
-            };
-            let q = h.p;
-            left = parser::make(nodes, q, operation(r, e.node, j, right.node));
-        } else {
-            r -= 1;
+        let rank = rank_of(kind);
+        if rank <= looser {
+            return found(s, left);
         }
+        if r < rank {
+            return found(s, left);
+        }
+        let j = parser::next(tokens, i);
+        let h = binary(tokens, errors, nodes, s.at_token(j), levels, rank);
+        let kh = h.got;
+        let Got::Node(right) = kh else {
+            return h;
+        };
+        let q = h.p;
+        let m = parser::make(nodes, q, operation(rank, left.node, j, right.node));
+        let km = m.got;
+        let Got::Node(n) = km else {
+            return m;
+        };
+        left = n;
+        s = m.p;
+        r = rank;
     }
-    left
 }
 
 // `and` and `or` make a Logical, the others a Binary.
