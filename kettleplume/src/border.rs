@@ -131,6 +131,8 @@ impl Parser {
     /// Reads one top-level statement, over the source and the tables as the last call left them. 19
     /// says that there is another; 18, that parser and tables don't go together, and nothing is
     /// changed; any other answer is final, and is given again from then on.
+    // It is lent tables at each call, so it is no iterator.
+    #[allow(clippy::should_implement_trait)]
     pub fn next(
         &mut self,
         source: &[u8],
