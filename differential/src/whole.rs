@@ -3,6 +3,7 @@
 use std::fmt::Write as _;
 use std::rc::Rc;
 
+use kettleplume::Rooms;
 use readings::lexing::{Error, Token};
 use readings::nodes::Node;
 use readings::whole::{known, Answer, Known, Whole};
@@ -56,7 +57,10 @@ impl Tried {
         let mut dice = Dice::of(source);
         let trial = Trial::new(source, &mut dice);
         let known = match known(source) {
-            Known::Read(whole) => Kept::Read(Rc::new(*whole)),
+            Known::Read(whole) => {
+                enough(source, whole.needs());
+                Kept::Read(Rc::new(*whole))
+            }
             Known::Refused(outcome) => Kept::Refused(outcome),
             Known::Nothing => Kept::Nothing,
         };
@@ -121,6 +125,16 @@ impl Tried {
     pub fn trial(self) -> Trial {
         self.trial
     }
+}
+
+/// The crate's rooms for any source of this length are enough for this one.
+fn enough(source: &[u8], [tokens, errors, nodes]: [usize; 3]) {
+    let rooms = Rooms::enough(source.len());
+    assert!(
+        tokens <= rooms.tokens && errors <= rooms.errors && nodes <= rooms.nodes,
+        "{tokens} tokens, {errors} errors, {nodes} nodes: \"{}\"",
+        source.escape_ascii()
+    );
 }
 
 /// One reading with room enough: sometimes exactly enough, sometimes with records to spare.
