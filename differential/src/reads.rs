@@ -3,6 +3,7 @@
 use oracle::{read, Stop};
 use readings::dice::Dice as Rolls;
 use readings::grammar::Maker;
+use readings::spellings::{BETWEEN, NUMBERS, STRINGS};
 
 use crate::dice::Dice;
 use crate::lists::all_of_length;
@@ -187,25 +188,3 @@ impl Scripts {
 }
 
 const NAMES: [&str; 5] = ["name", "init", "self_", "ifs", "A"];
-
-const NUMBERS: [&str; 7] = [
-    "0",
-    "2.5",
-    "12",
-    "3.",
-    "007",
-    "9007199254740993",
-    "0.00000000000000000000001",
-];
-
-const STRINGS: [&str; 6] = [
-    "\"\"",
-    "\"a b\"",
-    "\"\\n\\t\\\"\"",
-    "\"\n\"",
-    "\"a\n\nb\"",
-    "\"é\"",
-];
-
-/// What gives a message of the lexer, and a newline that raises no line.
-const BETWEEN: [&str; 5] = [" @ ", " ! ", " é ", " \"\\q ", " \"\\\n "];

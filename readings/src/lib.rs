@@ -10,6 +10,7 @@ pub mod lexing;
 pub mod marks;
 pub mod nodes;
 pub mod scripts;
+pub mod spellings;
 pub mod whole;
 
 /// The way back from `nodes`: the file is the Rust crate's own, over the oracle's types. So what it

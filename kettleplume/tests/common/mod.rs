@@ -8,6 +8,7 @@ use readings::grammar::Maker;
 use readings::scripts::{
     around, many, LEFT_OF_EQUAL, MESSAGES, MORE_WAYS, NEWLINES, STARS, UNSTARRED, WAYS, WORKED,
 };
+use readings::spellings::{BETWEEN, NUMBERS, STRINGS};
 
 /// How many scripts are made at random.
 const MADE: usize = 6_000;
@@ -92,25 +93,3 @@ fn made() -> impl Iterator<Item = String> {
         }
     })
 }
-
-const NUMBERS: [&str; 7] = [
-    "0",
-    "2.5",
-    "12",
-    "3.",
-    "007",
-    "9007199254740993",
-    "0.00000000000000000000001",
-];
-
-const STRINGS: [&str; 6] = [
-    "\"\"",
-    "\"a b\"",
-    "\"\\n\\t\\\"\"",
-    "\"\n\"",
-    "\"a\n\nb\"",
-    "\"é\"",
-];
-
-/// What gives a message of the lexer, and a newline that raises no line.
-const BETWEEN: [&str; 5] = [" @ ", " ! ", " é ", " \"\\q ", " \"\\\n "];
