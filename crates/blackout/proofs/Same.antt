@@ -14,8 +14,8 @@ use Rattle.lexer.specs.Items.{items}
 use Rattle.lexer.specs.Lex.{Result, emit, fresh, refusal, pickResult, lexed, lexedOf}
 use Rattle.parser.specs.Whole.{Parsed, parsed}
 use Rattle.reader.specs.Reading.{Reading, over, readAfter, reading}
-use Rattle.reader.specs.Sizes.{SameReading}
-use Rattle.reader.proofs.Sizes.{reading-sizes, reading-read}
+use Rattle.whole.specs.Sizes.{SameReading}
+use Rattle.whole.proofs.Sizes.{reading-sizes, reading-read}
 use Rattle.blackout.specs.Blackout.{other, alike, Blackout}
 use Rattle.blackout.proofs.Near.{is-true}
 use Rattle.blackout.proofs.Items.{items-same}

@@ -10,8 +10,8 @@ use lib.ListN.{length, getD, take, drop, replicate, length-append, length-replic
 use lib.Seq.{take-all}
 use Rattle.records.specs.Table.{room, tokenWidth, errorWidth, nodeWidth}
 use Rattle.reader.specs.Reading.{Reading, reading}
-use Rattle.reader.specs.Sizes.{Within}
-use Rattle.reader.proofs.Rooms.{reading-rooms}
+use Rattle.whole.specs.Sizes.{Within}
+use Rattle.whole.proofs.Rooms.{reading-rooms}
 use Rattle.form.specs.Text.{Holds, digitsWithin, decimal, field, fields, lineOf, linesOf, headOf, textOf, outlineOf}
 
 one-more : (b : Bool) (k n : ℕ) (ds : List ℕ) → length ds ≤ k → length (cond b ((48 + n) ∷ []) (ds ++ ((48 + n % 10) ∷ []))) ≤ suc k

@@ -9,17 +9,17 @@ use borrow.Author.Tests.{eq-eqb, ne-eqb}
 use Rattle.records.specs.Table.{room, linked, tokenWidth, errorWidth, nodeWidth}
 use Rattle.lexer.specs.declared.Scanned.{Scanned}
 use Rattle.lexer.specs.Lex.{lexedOf, Lexing}
-use Rattle.parser.specs.declared.Parser as state
+use Rattle.parser.specs.declared.State as state
 use Rattle.parser.specs.declared.Found.{Found}
 use Rattle.parser.specs.declared.Got.{Got}
 use Rattle.parser.specs.declared.Got.the-variants.{Node, Stop}
 use Rattle.parser.specs.Tokens.{kindAt}
-use Rattle.parser.specs.Tables.{Read, read}
-use Rattle.parser.specs.Reading.{firstOf}
+use Rattle.parser.specs.Tables.{Reply, reply}
+use Rattle.parser.specs.Grammar.{firstOf}
 use Rattle.parser.specs.Whole.{topLevel}
 use Rattle.pair.specs.declared.Parser.{Parser}
 use Rattle.pair.specs.declared.Stepped.{Stepped}
-use Rattle.pair.specs.Pair.{Called, left, leaving, markedAs, final, pickCall, restOf, fresh, begunAfter, begun, noEof, onlyEof, within, fitsIn, refusedAs, stateOf, behind, stoppedAt, afterOne, oneOf, readOf}
+use Rattle.pair.specs.Pair.{Called, left, leaving, markedAs, final, pickCall, restOf, fresh, begunAfter, begun, noEof, onlyEof, within, fitsIn, refusedAs, stateOf, behind, stoppedAt, afterOne, oneOf, nextOf}
 
 -- the four parts of a call
 pub parts : (c d : Called) → c ≡ d → (c .stepped ≡ d .stepped) × (c .tokens ≡ d .tokens) × (c .errors ≡ d .errors) × (c .nodes ≡ d .nodes)
@@ -48,19 +48,19 @@ module _ (T : List ℕ) (p : Parser) (E N : List ℕ) (k : ℕ) (is : k ≡ kind
   unfolding oneOf
   one-ends z = ap (λ (b : Bool). pickCall b (λ _. final 0 p T E N) λ _. afterOne T p (topLevel T (stateOf p) E N)) (at-eof z)
 
-  module _ (z : k ≡ 0 → ⊥) (q : state.Parser) (g : Got) (E′ N′ : List ℕ) (e : read q g E′ N′ ≡ topLevel T (stateOf p) E N) where
+  module _ (z : k ≡ 0 → ⊥) (q : state.State) (g : Got) (E′ N′ : List ℕ) (e : reply q g E′ N′ ≡ topLevel T (stateOf p) E N) where
     -- a statement was read, and what came of it decides
-    one-came : oneOf T p E N ≡ afterOne T p (read q g E′ N′)
+    one-came : oneOf T p E N ≡ afterOne T p (reply q g E′ N′)
     unfolding oneOf
-    one-came = ap (λ (b : Bool). pickCall b (λ _. final 0 p T E N) λ _. afterOne T p (topLevel T (stateOf p) E N)) (before-eof z) ∙ ap (λ (r : Read). afterOne T p r) (sym e)
+    one-came = ap (λ (b : Bool). pickCall b (λ _. final 0 p T E N) λ _. afterOne T p (topLevel T (stateOf p) E N)) (before-eof z) ∙ ap (λ (r : Reply). afterOne T p r) (sym e)
 
     -- it stopped the reading
     pub one-stops : (o : ℕ) → g ≡ Stop o → oneOf T p E N ≡ final o (stoppedAt p (q .errors)) T E′ N′
-    one-stops o s = one-came ∙ ap (λ (g : Got). afterOne T p (read q g E′ N′)) s
+    one-stops o s = one-came ∙ ap (λ (g : Got). afterOne T p (reply q g E′ N′)) s
 
     -- it is linked behind the last one
     pub one-more : (n : Found) → g ≡ Node n → oneOf T p E N ≡ restOf T (behind p q (n .node)) E′ (linked N′ (p .last) (n .node))
-    one-more n s = one-came ∙ ap (λ (g : Got). afterOne T p (read q g E′ N′)) s
+    one-more n s = one-came ∙ ap (λ (g : Got). afterOne T p (reply q g E′ N′)) s
 
     -- the same with what the code has for the first statement and the nodes
     pub one-linked : (n : Found) → g ≡ Node n → (f : ℕ) → f ≡ firstOf (p .first) (n .node) → (N″ : List ℕ) → N″ ≡ linked N′ (p .last) (n .node)
@@ -160,19 +160,19 @@ module _ (T E N : List ℕ) (p : Parser) where
   by b = pickCall b (λ _. pickCall (fitsIn T E N p) (λ _. oneOf T p E N) λ _. left (refusedAs p) T E N) λ _. left (leaving p) T E N
 
   -- the final answer once more
-  pub read-again : (p .ended ≡ 0 → ⊥) → left (leaving p) T E N ≡ readOf T E N p
-  unfolding readOf
-  read-again z = ap by (sym (ne-eqb (p .ended) 0 z))
+  pub next-again : (p .ended ≡ 0 → ⊥) → left (leaving p) T E N ≡ nextOf T E N p
+  unfolding nextOf
+  next-again z = ap by (sym (ne-eqb (p .ended) 0 z))
 
   module _ (z : p .ended ≡ 0) (b : Bool) (is : b ≡ fitsIn T E N p) where
-    read-tests : pickCall b (λ _. oneOf T p E N) (λ _. left (refusedAs p) T E N) ≡ readOf T E N p
-    unfolding readOf
-    read-tests = ap (λ (x : Bool). pickCall x (λ _. oneOf T p E N) λ _. left (refusedAs p) T E N) is ∙ ap by (sym (eq-eqb (p .ended) 0 z))
+    next-tests : pickCall b (λ _. oneOf T p E N) (λ _. left (refusedAs p) T E N) ≡ nextOf T E N p
+    unfolding nextOf
+    next-tests = ap (λ (x : Bool). pickCall x (λ _. oneOf T p E N) λ _. left (refusedAs p) T E N) is ∙ ap by (sym (eq-eqb (p .ended) 0 z))
 
     -- 18
-    pub read-refuses : b ≡ false → left (refusedAs p) T E N ≡ readOf T E N p
-    read-refuses h = ap (λ (x : Bool). pickCall x (λ _. oneOf T p E N) λ _. left (refusedAs p) T E N) (sym h) ∙ read-tests
+    pub next-refuses : b ≡ false → left (refusedAs p) T E N ≡ nextOf T E N p
+    next-refuses h = ap (λ (x : Bool). pickCall x (λ _. oneOf T p E N) λ _. left (refusedAs p) T E N) (sym h) ∙ next-tests
 
     -- one statement
-    pub read-reads : b ≡ true → oneOf T p E N ≡ readOf T E N p
-    read-reads h = ap (λ (x : Bool). pickCall x (λ _. oneOf T p E N) λ _. left (refusedAs p) T E N) (sym h) ∙ read-tests
+    pub next-goes-on : b ≡ true → oneOf T p E N ≡ nextOf T E N p
+    next-goes-on h = ap (λ (x : Bool). pickCall x (λ _. oneOf T p E N) λ _. left (refusedAs p) T E N) (sym h) ∙ next-tests

@@ -5,11 +5,11 @@ use mathlib.Core.List.{List}
 use lib.Dec.{eqb, leb, ltb}
 use Rattle.records.specs.Table.{room, linked, zeroed, tokenWidth, errorWidth, nodeWidth}
 use Rattle.lexer.specs.Lex.{Result, lexedOf}
-use Rattle.parser.specs.declared.Parser as state
+use Rattle.parser.specs.declared.State as state
 use Rattle.parser.specs.declared.Got.the-variants.{Node, Stop}
 use Rattle.parser.specs.Tokens.{kindAt}
-use Rattle.parser.specs.Tables.{Read, read}
-use Rattle.parser.specs.Reading.{firstOf}
+use Rattle.parser.specs.Tables.{Reply, reply}
+use Rattle.parser.specs.Grammar.{firstOf}
 use Rattle.parser.specs.Whole.{topLevel}
 use Rattle.reader.specs.declared.Answer.{Answer}
 use Rattle.reader.specs.Reading.{over}
@@ -97,11 +97,11 @@ abbrev pub refusedAs : Parser → Stepped
 refusedAs p = record { parser = p; answer = record { outcome = 18; tokens = 0; errors = 0; nodes = 0; first = 0 } }
 
 -- the state in which the parser reads
-abbrev pub stateOf : Parser → state.Parser
+abbrev pub stateOf : Parser → state.State
 stateOf p = record { current = p .current; errors = p .errors; nodes = p .nodes; loops = p .loops }
 
 -- the parser behind a statement n, in the state q
-abbrev pub behind : Parser → state.Parser → ℕ → Parser
+abbrev pub behind : Parser → state.State → ℕ → Parser
 behind p q n = record { current = q .current; loops = q .loops; tokens = p .tokens; errors = q .errors; nodes = q .nodes; first = firstOf (p .first) n; last = n; ended = 0; outcome = 19 }
 
 -- the parser at a statement that stopped the reading: none of its nodes is kept, but its errors are
@@ -109,17 +109,17 @@ abbrev pub stoppedAt : Parser → ℕ → Parser
 stoppedAt p errors = record { current = p .current; loops = p .loops; tokens = p .tokens; errors = errors; nodes = p .nodes; first = p .first; last = p .last; ended = 0; outcome = 19 }
 
 -- by what came of a statement: it is linked behind the last one; or it stopped the reading
-abbrev pub afterOne : List ℕ → Parser → Read → Called
-afterOne T p (read q (Node f) E N) = restOf T (behind p q (f .node)) E (linked N (p .last) (f .node))
-afterOne T p (read q (Stop o) E N) = final o (stoppedAt p (q .errors)) T E N
+abbrev pub afterOne : List ℕ → Parser → Reply → Called
+afterOne T p (reply q (Node f) E N) = restOf T (behind p q (f .node)) E (linked N (p .last) (f .node))
+afterOne T p (reply q (Stop o) E N) = final o (stoppedAt p (q .errors)) T E N
 
 -- one top-level statement is read; at EOF there is none, and the reading is at its end
 unfoldable pub oneOf : List ℕ → Parser → List ℕ → List ℕ → Called
 oneOf T p E N = pickCall (eqb (kindAt T (p .current)) 0) (λ _. final 0 p T E N) λ _. afterOne T p (topLevel T (stateOf p) E N)
 
 -- `read`, of any parser and any tables: the final answer once more, where it was given; else 18 or one statement
-unfoldable pub readOf : List ℕ → List ℕ → List ℕ → Parser → Called
-readOf T E N p =
+unfoldable pub nextOf : List ℕ → List ℕ → List ℕ → Parser → Called
+nextOf T E N p =
     pickCall (eqb (p .ended) 0)
     (λ _. pickCall (fitsIn T E N p) (λ _. oneOf T p E N) λ _. left (refusedAs p) T E N) λ _.
     left (leaving p) T E N
@@ -127,9 +127,9 @@ readOf T E N p =
 -- ---- calls one after the other
 -- a read that is lent the parser and the tables as the last call left them
 abbrev pub next : Called → Called
-next c = readOf (c .tokens) (c .errors) (c .nodes) (c .stepped .parser)
+next c = nextOf (c .tokens) (c .errors) (c .nodes) (c .stepped .parser)
 
 -- so many reads
-unfoldable pub reads : ℕ → Called → Called
-reads zero c = c
-reads (suc k) c = next (reads k c)
+unfoldable pub nexts : ℕ → Called → Called
+nexts zero c = c
+nexts (suc k) c = next (nexts k c)

@@ -2,7 +2,7 @@
 ghost use mathlib.Core.Path.{_≡_};
 ghost use mathlib.Core.List.{List};
 ghost use Prim.Native.Nat.{ℕ};
-ghost use Rattle.pair.specs.Pair.{left, leaving, markedAs, final, restOf, begun, noEof, onlyEof, fitsIn, refusedAs, oneOf, readOf};
+ghost use Rattle.pair.specs.Pair.{left, leaving, markedAs, final, restOf, begun, noEof, onlyEof, fitsIn, refusedAs, oneOf, nextOf};
 use parser::Got;
 use reader::Answer;
 use token::Token;
@@ -137,7 +137,7 @@ fn one(tokens: &[u32], errors: &mut [u32], nodes: &mut [u32], p: Parser) -> Step
     if parser::kind_at(tokens, at) == Token::EOF {
         return finish(nodes, p, 0);
     }
-    let s = parser::Parser {
+    let s = parser::State {
         current: p.current,
         errors: p.errors,
         nodes: p.nodes,
@@ -227,10 +227,10 @@ pub fn step(
     nodes: &mut [u32],
     p: Parser,
 ) -> Stepped
-    ensures { λ r. ⌜ (r ≡ readOf (now (tokens .entry)) (now (errors .entry)) (now (nodes .entry)) p .stepped)
-        × (now (tokens .exit) ≡ readOf (now (tokens .entry)) (now (errors .entry)) (now (nodes .entry)) p .tokens)
-        × (now (errors .exit) ≡ readOf (now (tokens .entry)) (now (errors .entry)) (now (nodes .entry)) p .errors)
-        × (now (nodes .exit) ≡ readOf (now (tokens .entry)) (now (errors .entry)) (now (nodes .entry)) p .nodes) ⌝ }
+    ensures { λ r. ⌜ (r ≡ nextOf (now (tokens .entry)) (now (errors .entry)) (now (nodes .entry)) p .stepped)
+        × (now (tokens .exit) ≡ nextOf (now (tokens .entry)) (now (errors .entry)) (now (nodes .entry)) p .tokens)
+        × (now (errors .exit) ≡ nextOf (now (tokens .entry)) (now (errors .entry)) (now (nodes .entry)) p .errors)
+        × (now (nodes .exit) ≡ nextOf (now (tokens .entry)) (now (errors .entry)) (now (nodes .entry)) p .nodes) ⌝ }
 {
     if p.ended == 0 {
         if fits(tokens, errors, nodes, p) {
@@ -280,11 +280,11 @@ pub extern "C" fn kettleplume_next(
     errors: &mut [u32],
     nodes: &mut [u32],
 ) -> Answer
-    ensures { λ r. ⌜ (r ≡ readOf (now (tokens .entry)) (now (errors .entry)) (now (nodes .entry)) (now (parser .entry)) .stepped .answer)
-        × (now (parser .exit) ≡ readOf (now (tokens .entry)) (now (errors .entry)) (now (nodes .entry)) (now (parser .entry)) .stepped .parser)
-        × (now (tokens .exit) ≡ readOf (now (tokens .entry)) (now (errors .entry)) (now (nodes .entry)) (now (parser .entry)) .tokens)
-        × (now (errors .exit) ≡ readOf (now (tokens .entry)) (now (errors .entry)) (now (nodes .entry)) (now (parser .entry)) .errors)
-        × (now (nodes .exit) ≡ readOf (now (tokens .entry)) (now (errors .entry)) (now (nodes .entry)) (now (parser .entry)) .nodes) ⌝ }
+    ensures { λ r. ⌜ (r ≡ nextOf (now (tokens .entry)) (now (errors .entry)) (now (nodes .entry)) (now (parser .entry)) .stepped .answer)
+        × (now (parser .exit) ≡ nextOf (now (tokens .entry)) (now (errors .entry)) (now (nodes .entry)) (now (parser .entry)) .stepped .parser)
+        × (now (tokens .exit) ≡ nextOf (now (tokens .entry)) (now (errors .entry)) (now (nodes .entry)) (now (parser .entry)) .tokens)
+        × (now (errors .exit) ≡ nextOf (now (tokens .entry)) (now (errors .entry)) (now (nodes .entry)) (now (parser .entry)) .errors)
+        × (now (nodes .exit) ≡ nextOf (now (tokens .entry)) (now (errors .entry)) (now (nodes .entry)) (now (parser .entry)) .nodes) ⌝ }
 {
     let p = *parser;
     let s = step(source, tokens, errors, nodes, p);

@@ -1,16 +1,3 @@
 pub mod Look
-pub mod Leaf
 pub mod Write
-pub mod Calls
-pub mod Frame
-pub mod Sizes
-pub mod Moves
-pub mod Fuel
-pub mod Same
-pub mod Ahead
-pub mod TreeRows
-pub mod TreeTyping
-pub mod TreeLists
-pub mod TreeReaders
-pub mod Trees
 pub mod One

@@ -10,10 +10,10 @@ use Rattle.records.specs.Table.{tokenWidth}
 use Rattle.records.proofs.Field.{field-none}
 use Rattle.parser.specs.declared.Seen.{Seen}
 use Rattle.parser.specs.declared.Seen.the-variants.{At, Nothing}
-use Rattle.parser.specs.declared.Parser.{Parser}
+use Rattle.parser.specs.declared.State.{State}
 use Rattle.parser.specs.Tables.{moved, ifSeen}
 use Rattle.parser.specs.Programs.{Which, Reader, Prog, run}
-use Rattle.parser.specs.Reading.{lookMany}
+use Rattle.parser.specs.Grammar.{lookMany}
 use Rattle.parser.specs.Tokens.{count, kindAt, after, skipFrom, skipLines, seenIf, checkAt, matchesAt, orNext, matchesMany}
 
 pub after-in : (T : List ℕ) (i : ℕ) → (kindAt T i ≡ 0 → ⊥) → i + 1 ≡ after T i
@@ -73,7 +73,7 @@ unfolding checkAt seenIf
 check-none T at k e h = rw (ne-eqb _ _ e, ne-eqb _ _ h, checkAt)
 
 -- what `lookMany` does is decided by `matches_many`
-pub run-many : (T : List ℕ) (low : Which → Reader) (ks : List ℕ) (found : ℕ → Prog) (missing : Prog) (p : Parser) (E N : List ℕ) →
+pub run-many : (T : List ℕ) (low : Which → Reader) (ks : List ℕ) (found : ℕ → Prog) (missing : Prog) (p : State) (E N : List ℕ) →
     run T low (lookMany T ks found missing) p E N ≡ ifSeen (matchesMany T (p .current) ks) (λ i. run T low (found i) (moved p i) E N) λ _. run T low missing p E N
 unfolding run lookMany matchesMany
 run-many T low [] found missing p E N = refl

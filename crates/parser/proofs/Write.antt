@@ -12,7 +12,7 @@ use Rattle.records.specs.Table.{room, put, errorWidth, nodeWidth, Pushed}
 use Rattle.records.specs.Words.{errorWords, nodeWords}
 use Rattle.records.specs.declared.Node as rows
 use Rattle.records.proofs.Put.{put-none}
-use Rattle.parser.specs.declared.Parser.{Parser}
+use Rattle.parser.specs.declared.State.{State}
 use Rattle.parser.specs.declared.Out.{Out}
 use Rattle.parser.specs.declared.Found.{Found}
 use Rattle.parser.specs.declared.Got.{Got}
@@ -20,53 +20,53 @@ use Rattle.parser.specs.declared.Got.the-variants.{Node, Stop}
 use Rattle.parser.specs.declared.Seen.{Seen}
 use Rattle.parser.specs.declared.Seen.the-variants.{At, Nothing}
 use Rattle.parser.specs.Tokens.{lineAt, matchesAt}
-use Rattle.parser.specs.Tables.{Read, read, moved, plain, pushNode, pushError, andThen, consumeAt, requireAt}
+use Rattle.parser.specs.Tables.{Reply, reply, moved, plain, pushNode, pushError, andThen, consumeAt, requireAt}
 use Rattle.parser.specs.Programs.{raised}
-use Rattle.parser.specs.Reading.{firstOf}
+use Rattle.parser.specs.Grammar.{firstOf}
 
 -- a record that had room is one that a word can count
 pub counted : (w : ℕ) (t : List ℕ) (n : ℕ) (b : Bool) → b ≡ ltb n (room w t) → b ≡ true → n < 4294967295
 counted w t n b answer h = le-trans (ltb-true n (room w t) (sym answer ∙ h)) (min-le-right (length t / w) 4294967295)
 
 -- ---- nodes
-module _ (d : rows.Node) (p : Parser) (E N N′ : List ℕ) (b : Bool) (o : Out) (h : Pushed nodeWidth N (p .nodes) (nodeWords d) b N′) where
+module _ (d : rows.Node) (p : State) (E N N′ : List ℕ) (b : Bool) (o : Out) (h : Pushed nodeWidth N (p .nodes) (nodeWords d) b N′) where
   pub node-made : b ≡ true → o ≡ record { p = record { current = p .current; errors = p .errors; nodes = p .nodes + 1; loops = p .loops }; got = Node (plain (p .nodes + 1)) }
-      → read (o .p) (o .got) E N′ ≡ pushNode d p E N
+      → reply (o .p) (o .got) E N′ ≡ pushNode d p E N
   unfolding pushNode
   node-made t e =
       let r : ltb (p .nodes) (room nodeWidth N) ≡ true = sym (h .answer) ∙ t in
-      ap (λ (x : Out). read (x .p) (x .got) E N′) e
-      ∙ ap (read (record { current = p .current; errors = p .errors; nodes = p .nodes + 1; loops = p .loops }) (Node (plain (p .nodes + 1))) E) (h .table)
+      ap (λ (x : Out). reply (x .p) (x .got) E N′) e
+      ∙ ap (reply (record { current = p .current; errors = p .errors; nodes = p .nodes + 1; loops = p .loops }) (Node (plain (p .nodes + 1))) E) (h .table)
       ∙ sym (rw (r, pushNode))
 
-  pub node-refused : b ≡ false → o ≡ record { p = p; got = Stop 7 } → read (o .p) (o .got) E N′ ≡ pushNode d p E N
+  pub node-refused : b ≡ false → o ≡ record { p = p; got = Stop 7 } → reply (o .p) (o .got) E N′ ≡ pushNode d p E N
   unfolding pushNode
   node-refused t e =
       let r : ltb (p .nodes) (room nodeWidth N) ≡ false = sym (h .answer) ∙ t in
-      ap (λ (x : Out). read (x .p) (x .got) E N′) e
-      ∙ ap (read p (Stop 7) E) (h .table ∙ put-none nodeWidth N (p .nodes) (nodeWords d) (ltb-false _ _ r))
+      ap (λ (x : Out). reply (x .p) (x .got) E N′) e
+      ∙ ap (reply p (Stop 7) E) (h .table ∙ put-none nodeWidth N (p .nodes) (nodeWords d) (ltb-false _ _ r))
       ∙ sym (rw (r, pushNode))
 
 -- ---- errors
-module _ (T : List ℕ) (message i line : ℕ) (p : Parser) (E E′ N : List ℕ) (b : Bool) (o : Out) (l : line ≡ lineAt T i)
+module _ (T : List ℕ) (message i line : ℕ) (p : State) (E E′ N : List ℕ) (b : Bool) (o : Out) (l : line ≡ lineAt T i)
     (h : Pushed errorWidth E (p .errors) (errorWords (record { message = message; line = line; pos = 0 })) b E′) where
   pub error-made : b ≡ true → o ≡ record { p = record { current = p .current; errors = p .errors + 1; nodes = p .nodes; loops = p .loops }; got = Node (plain 0) }
-      → read (o .p) (o .got) E′ N ≡ pushError T message i p E N
+      → reply (o .p) (o .got) E′ N ≡ pushError T message i p E N
   unfolding pushError
   error-made t e =
       let r : ltb (p .errors) (room errorWidth E) ≡ true = sym (h .answer) ∙ t in
-      let q : Parser = record { current = p .current; errors = p .errors + 1; nodes = p .nodes; loops = p .loops } in
-      ap (λ (x : Out). read (x .p) (x .got) E′ N) e
-      ∙ ap (λ (x : List ℕ). read q (Node (plain 0)) x N) (h .table)
-      ∙ ap (λ (x : ℕ). read q (Node (plain 0)) (put errorWidth E (p .errors) (errorWords (record { message = message; line = x; pos = 0 }))) N) l
+      let q : State = record { current = p .current; errors = p .errors + 1; nodes = p .nodes; loops = p .loops } in
+      ap (λ (x : Out). reply (x .p) (x .got) E′ N) e
+      ∙ ap (λ (x : List ℕ). reply q (Node (plain 0)) x N) (h .table)
+      ∙ ap (λ (x : ℕ). reply q (Node (plain 0)) (put errorWidth E (p .errors) (errorWords (record { message = message; line = x; pos = 0 }))) N) l
       ∙ sym (rw (r, pushError))
 
-  pub error-refused : b ≡ false → o ≡ record { p = p; got = Stop 6 } → read (o .p) (o .got) E′ N ≡ pushError T message i p E N
+  pub error-refused : b ≡ false → o ≡ record { p = p; got = Stop 6 } → reply (o .p) (o .got) E′ N ≡ pushError T message i p E N
   unfolding pushError
   error-refused t e =
       let r : ltb (p .errors) (room errorWidth E) ≡ false = sym (h .answer) ∙ t in
-      ap (λ (x : Out). read (x .p) (x .got) E′ N) e
-      ∙ ap (λ (x : List ℕ). read p (Stop 6) x N) (h .table ∙ put-none errorWidth E (p .errors) _ (ltb-false _ _ r))
+      ap (λ (x : Out). reply (x .p) (x .got) E′ N) e
+      ∙ ap (λ (x : List ℕ). reply p (Stop 6) x N) (h .table ∙ put-none errorWidth E (p .errors) _ (ltb-false _ _ r))
       ∙ sym (rw (r, pushError))
 
 -- ---- loops
@@ -79,40 +79,40 @@ unfolding raised
 raised-full n h = sym (rw (le-ltb _ _ h, raised))
 
 -- ---- a token that is passed, or whose absence is an error
-module _ (T : List ℕ) (kind message : ℕ) (p : Parser) (s : Seen) (h : s ≡ matchesAt T (p .current) kind) where
-  pub consume-found : (i : ℕ) (E N : List ℕ) (o : Out) (q : Parser) → s ≡ At i → q ≡ moved p i → o ≡ record { p = q; got = Node (plain i) } → read (o .p) (o .got) E N ≡ consumeAt T kind message p E N
+module _ (T : List ℕ) (kind message : ℕ) (p : State) (s : Seen) (h : s ≡ matchesAt T (p .current) kind) where
+  pub consume-found : (i : ℕ) (E N : List ℕ) (o : Out) (q : State) → s ≡ At i → q ≡ moved p i → o ≡ record { p = q; got = Node (plain i) } → reply (o .p) (o .got) E N ≡ consumeAt T kind message p E N
   unfolding consumeAt
   consume-found i E N o q f g e =
       let m : matchesAt T (p .current) kind ≡ At i = sym h ∙ f in
-      ap (λ (x : Out). read (x .p) (x .got) E N) e ∙ ap (λ (x : Parser). read x (Node (plain i)) E N) g ∙ sym (rw (m, consumeAt))
+      ap (λ (x : Out). reply (x .p) (x .got) E N) e ∙ ap (λ (x : State). reply x (Node (plain i)) E N) g ∙ sym (rw (m, consumeAt))
 
-  pub consume-missing : (E N : List ℕ) (r : Read) → s ≡ Nothing → r ≡ pushError T message (p .current) p E N → r ≡ consumeAt T kind message p E N
+  pub consume-missing : (E N : List ℕ) (r : Reply) → s ≡ Nothing → r ≡ pushError T message (p .current) p E N → r ≡ consumeAt T kind message p E N
   unfolding consumeAt
   consume-missing E N r f e =
       let m : matchesAt T (p .current) kind ≡ Nothing = sym h ∙ f in
       e ∙ sym (rw (m, consumeAt))
 
-  pub require-found : (i : ℕ) (E N : List ℕ) (o : Out) (q : Parser) → s ≡ At i → q ≡ moved p i → o ≡ record { p = q; got = Node (plain i) } → read (o .p) (o .got) E N ≡ requireAt T kind message p E N
+  pub require-found : (i : ℕ) (E N : List ℕ) (o : Out) (q : State) → s ≡ At i → q ≡ moved p i → o ≡ record { p = q; got = Node (plain i) } → reply (o .p) (o .got) E N ≡ requireAt T kind message p E N
   unfolding requireAt
   require-found i E N o q f g e =
       let m : matchesAt T (p .current) kind ≡ At i = sym h ∙ f in
-      ap (λ (x : Out). read (x .p) (x .got) E N) e ∙ ap (λ (x : Parser). read x (Node (plain i)) E N) g ∙ sym (rw (m, requireAt))
+      ap (λ (x : Out). reply (x .p) (x .got) E N) e ∙ ap (λ (x : State). reply x (Node (plain i)) E N) g ∙ sym (rw (m, requireAt))
 
-  module _ (E E′ N : List ℕ) (g : Out) (f : s ≡ Nothing) (e : read (g .p) (g .got) E′ N ≡ pushError T message (p .current) p E N) where
-    stops : requireAt T kind message p E N ≡ andThen (read (g .p) (g .got) E′ N) λ x q E N. read q (Stop 1) E N
+  module _ (E E′ N : List ℕ) (g : Out) (f : s ≡ Nothing) (e : reply (g .p) (g .got) E′ N ≡ pushError T message (p .current) p E N) where
+    stops : requireAt T kind message p E N ≡ andThen (reply (g .p) (g .got) E′ N) λ x q E N. reply q (Stop 1) E N
     unfolding requireAt
     stops =
         let m : matchesAt T (p .current) kind ≡ Nothing = sym h ∙ f in
-        let r : requireAt T kind message p E N ≡ andThen (pushError T message (p .current) p E N) (λ x q E N. read q (Stop 1) E N) = rw (m, requireAt) in
-        r ∙ ap (λ (x : Read). andThen x λ x q E N. read q (Stop 1) E N) (sym e)
+        let r : requireAt T kind message p E N ≡ andThen (pushError T message (p .current) p E N) (λ x q E N. reply q (Stop 1) E N) = rw (m, requireAt) in
+        r ∙ ap (λ (x : Reply). andThen x λ x q E N. reply q (Stop 1) E N) (sym e)
 
-    pub require-full : (w : ℕ) → g .got ≡ Stop w → read (g .p) (g .got) E′ N ≡ requireAt T kind message p E N
-    require-full w k = ap (λ (x : Got). read (g .p) x E′ N) k ∙ sym (stops ∙ ap (λ (x : Got). andThen (read (g .p) x E′ N) λ x q E N. read q (Stop 1) E N) k)
+    pub require-full : (w : ℕ) → g .got ≡ Stop w → reply (g .p) (g .got) E′ N ≡ requireAt T kind message p E N
+    require-full w k = ap (λ (x : Got). reply (g .p) x E′ N) k ∙ sym (stops ∙ ap (λ (x : Got). andThen (reply (g .p) x E′ N) λ x q E N. reply q (Stop 1) E N) k)
 
-    pub require-stops : (x : Found) (o : Out) → g .got ≡ Node x → o ≡ record { p = g .p; got = Stop 1 } → read (o .p) (o .got) E′ N ≡ requireAt T kind message p E N
+    pub require-stops : (x : Found) (o : Out) → g .got ≡ Node x → o ≡ record { p = g .p; got = Stop 1 } → reply (o .p) (o .got) E′ N ≡ requireAt T kind message p E N
     require-stops x o k q =
-        ap (λ (y : Out). read (y .p) (y .got) E′ N) q
-        ∙ sym (stops ∙ ap (λ (y : Got). andThen (read (g .p) y E′ N) λ x q E N. read q (Stop 1) E N) k)
+        ap (λ (y : Out). reply (y .p) (y .got) E′ N) q
+        ∙ sym (stops ∙ ap (λ (y : Got). andThen (reply (g .p) y E′ N) λ x q E N. reply q (Stop 1) E N) k)
 
 -- a list's first member
 pub first-none : (f n : ℕ) → f ≡ 0 → n ≡ firstOf f n

@@ -2,8 +2,5 @@ pub mod Tokens
 pub mod Tables
 pub mod Nodes
 pub mod Programs
-pub mod Reading
+pub mod Grammar
 pub mod Whole
-pub mod Calls
-pub mod Ahead
-pub mod Trees

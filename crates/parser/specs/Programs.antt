@@ -5,15 +5,15 @@ use mathlib.Core.List.{List}
 use lib.Dec.{ltb, eqb}
 use Rattle.records.specs.Table.{linked}
 use Rattle.records.specs.declared.Node as rows
-use Rattle.parser.specs.declared.Parser.{Parser}
+use Rattle.parser.specs.declared.State.{State}
 use Rattle.parser.specs.declared.Found.{Found}
 use Rattle.parser.specs.declared.Got.the-variants.{Node, Stop}
 use Rattle.parser.specs.Tokens.{kindAt, checkAt, matchesAt}
-use Rattle.parser.specs.Tables.{Read, read, moved, looped, plain, pushNode, pushError, ifSeen, andThen, consumeAt, requireAt}
+use Rattle.parser.specs.Tables.{Reply, reply, moved, looped, plain, pushNode, pushError, ifSeen, andThen, consumeAt, requireAt}
 
 -- a reader takes where the reading is and the two tables, and gives an answer and the tables then
 abbrev pub Reader : Type 0
-Reader = Parser → List ℕ → List ℕ → Read
+Reader = State → List ℕ → List ℕ → Reply
 
 -- the readings that open a level: a statement reading, an expression reading, the operand of a prefix operator
 pub data Which : Type 0 where
@@ -60,33 +60,33 @@ unfoldable pub raised : ℕ → ℕ
 raised n = elim (ltb n 4294967295) [ true ↦ n + 1 | false ↦ n ]
 
 -- by a test
-abbrev pub either : Bool → (Unit {0} → Read) → (Unit {0} → Read) → Read
+abbrev pub either : Bool → (Unit {0} → Reply) → (Unit {0} → Reply) → Reply
 either true a b = a tt
 either false a b = b tt
 
 -- a function's loops are its own: the count of the function around it comes back
-abbrev pub restored : Parser → Read → Read
-restored p (read q (Node f) E N) = read (looped q (p .loops)) (Node f) E N
-restored p (read q (Stop o) E N) = read q (Stop o) E N
+abbrev pub restored : State → Reply → Reply
+restored p (reply q (Node f) E N) = reply (looped q (p .loops)) (Node f) E N
+restored p (reply q (Stop o) E N) = reply q (Stop o) E N
 
 -- what a program does, given the readers one level down
 unfoldable pub run : List ℕ → (Which → Reader) → Prog → Reader
-run T low (give f) p E N = read p (Node f) E N
-run T low (stop o) p E N = read p (Stop o) E N
+run T low (give f) p E N = reply p (Node f) E N
+run T low (stop o) p E N = reply p (Stop o) E N
 run T low (m >>= k) p E N = andThen (run T low m p E N) λ f q E N. run T low (k f) q E N
 run T low (m >> k) p E N = andThen (run T low m p E N) λ f q E N. run T low k q E N
 run T low (look kind found missing) p E N = ifSeen (matchesAt T (p .current) kind) (λ i. run T low (found i) (moved p i) E N) λ _. run T low missing p E N
 run T low (check kind found missing) p E N = ifSeen (checkAt T (p .current) kind) (λ i. run T low found (moved p i) E N) λ _. run T low missing p E N
 run T low (atEnd found missing) p E N = either (eqb (kindAt T (p .current)) 0) (λ _. run T low found p E N) λ _. run T low missing p E N
-run T low previous p E N = read p (Node (plain (p .current))) E N
+run T low previous p E N = reply p (Node (plain (p .current))) E N
 run T low (node d) p E N = pushNode d p E N
-run T low (link prev next) p E N = read p (Node (plain 0)) E (linked N prev next)
+run T low (link prev next) p E N = reply p (Node (plain 0)) E (linked N prev next)
 run T low (fail message) p E N = pushError T message (p .current) p E N
 run T low (failAt message token) p E N = pushError T message (token - 1) p E N
 run T low (consume kind message) p E N = consumeAt T kind message p E N
 run T low (require kind message) p E N = requireAt T kind message p E N
-run T low enterLoop p E N = read (looped p (raised (p .loops))) (Node (plain 0)) E N
-run T low leaveLoop p E N = read (looped p (p .loops - 1)) (Node (plain 0)) E N
+run T low enterLoop p E N = reply (looped p (raised (p .loops))) (Node (plain 0)) E N
+run T low leaveLoop p E N = reply (looped p (p .loops - 1)) (Node (plain 0)) E N
 run T low (insideLoop found missing) p E N = either (eqb (p .loops) 0) (λ _. run T low missing p E N) λ _. run T low found p E N
 run T low (inFunction name m) p E N = restored p (run T low m (looped p 0) E N)
 run T low (down w) p E N = low w p E N

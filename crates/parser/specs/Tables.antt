@@ -6,7 +6,7 @@ use lib.Dec.{ltb}
 use Rattle.records.specs.Table.{room, put, errorWidth, nodeWidth}
 use Rattle.records.specs.Words.{errorWords, nodeWords}
 use Rattle.records.specs.declared.Node as rows
-use Rattle.parser.specs.declared.Parser.{Parser}
+use Rattle.parser.specs.declared.State.{State}
 use Rattle.parser.specs.declared.Form.the-variants.{Other}
 use Rattle.parser.specs.declared.Found.{Found}
 use Rattle.parser.specs.declared.Got.{Got}
@@ -16,15 +16,15 @@ use Rattle.parser.specs.declared.Seen.the-variants.{At, Nothing}
 use Rattle.parser.specs.Tokens.{lineAt, matchesAt}
 
 -- a reader's answer: the state, what it found or why it stopped, and the tables of errors and nodes then
-pub data Read : Type 0 where
-  read : Parser → Got → List ℕ → List ℕ → Read
+pub data Reply : Type 0 where
+  reply : State → Got → List ℕ → List ℕ → Reply
 
 -- the reading goes on at token i
-abbrev pub moved : Parser → ℕ → Parser
+abbrev pub moved : State → ℕ → State
 moved p i = record { current = i; errors = p .errors; nodes = p .nodes; loops = p .loops }
 
 -- the reading goes on with so many open loops
-abbrev pub looped : Parser → ℕ → Parser
+abbrev pub looped : State → ℕ → State
 looped p n = record { current = p .current; errors = p .errors; nodes = p .nodes; loops = n }
 
 -- a node, or a token's reference, that is nothing left of `=`
@@ -32,39 +32,39 @@ abbrev pub plain : ℕ → Found
 plain n = record { node = n; form = Other; access = 0 }
 
 -- one more node: its reference; outcome 7 where it finds no room
-unfoldable pub pushNode : rows.Node → Parser → List ℕ → List ℕ → Read
+unfoldable pub pushNode : rows.Node → State → List ℕ → List ℕ → Reply
 pushNode d p E N =
     elim (ltb (p .nodes) (room nodeWidth N)) [
-      | true ↦ read (record { current = p .current; errors = p .errors; nodes = p .nodes + 1; loops = p .loops }) (Node (plain (p .nodes + 1))) E (put nodeWidth N (p .nodes) (nodeWords d))
-      | false ↦ read p (Stop 7) E N
+      | true ↦ reply (record { current = p .current; errors = p .errors; nodes = p .nodes + 1; loops = p .loops }) (Node (plain (p .nodes + 1))) E (put nodeWidth N (p .nodes) (nodeWords d))
+      | false ↦ reply p (Stop 7) E N
     ]
 
 -- one more error, with the line of token i and pos 0; outcome 6 where it finds no room
-unfoldable pub pushError : List ℕ → ℕ → ℕ → Parser → List ℕ → List ℕ → Read
+unfoldable pub pushError : List ℕ → ℕ → ℕ → State → List ℕ → List ℕ → Reply
 pushError T message i p E N =
     elim (ltb (p .errors) (room errorWidth E)) [
-      | true ↦ read (record { current = p .current; errors = p .errors + 1; nodes = p .nodes; loops = p .loops }) (Node (plain 0)) (put errorWidth E (p .errors) (errorWords (record { message = message; line = lineAt T i; pos = 0 }))) N
-      | false ↦ read p (Stop 6) E N
+      | true ↦ reply (record { current = p .current; errors = p .errors + 1; nodes = p .nodes; loops = p .loops }) (Node (plain 0)) (put errorWidth E (p .errors) (errorWords (record { message = message; line = lineAt T i; pos = 0 }))) N
+      | false ↦ reply p (Stop 6) E N
     ]
 
 -- by whether a token was found
-abbrev pub ifSeen : Seen → (ℕ → Read) → (Unit {0} → Read) → Read
+abbrev pub ifSeen : Seen → (ℕ → Reply) → (Unit {0} → Reply) → Reply
 ifSeen (At i) found missing = found i
 ifSeen Nothing found missing = missing tt
 
 -- with what was found the reading goes on; a stop stops it
-abbrev pub andThen : Read → (Found → Parser → List ℕ → List ℕ → Read) → Read
-andThen (read p (Node f) E N) k = k f p E N
-andThen (read p (Stop o) E N) k = read p (Stop o) E N
+abbrev pub andThen : Reply → (Found → State → List ℕ → List ℕ → Reply) → Reply
+andThen (reply p (Node f) E N) k = k f p E N
+andThen (reply p (Stop o) E N) k = reply p (Stop o) E N
 
 -- `consume`: the token asked for is passed, and its reference given; else its absence is an error, and 0 is given
-unfoldable pub consumeAt : List ℕ → ℕ → ℕ → Parser → List ℕ → List ℕ → Read
+unfoldable pub consumeAt : List ℕ → ℕ → ℕ → State → List ℕ → List ℕ → Reply
 consumeAt T kind message p E N =
-    ifSeen (matchesAt T (p .current) kind) (λ i. read (moved p i) (Node (plain i)) E N) λ _.
+    ifSeen (matchesAt T (p .current) kind) (λ i. reply (moved p i) (Node (plain i)) E N) λ _.
     pushError T message (p .current) p E N
 
 -- a `consume` whose result is unwrapped: its failure stops the reading
-unfoldable pub requireAt : List ℕ → ℕ → ℕ → Parser → List ℕ → List ℕ → Read
+unfoldable pub requireAt : List ℕ → ℕ → ℕ → State → List ℕ → List ℕ → Reply
 requireAt T kind message p E N =
-    ifSeen (matchesAt T (p .current) kind) (λ i. read (moved p i) (Node (plain i)) E N) λ _.
-    andThen (pushError T message (p .current) p E N) λ f q E N. read q (Stop 1) E N
+    ifSeen (matchesAt T (p .current) kind) (λ i. reply (moved p i) (Node (plain i)) E N) λ _.
+    andThen (pushError T message (p .current) p E N) λ f q E N. reply q (Stop 1) E N

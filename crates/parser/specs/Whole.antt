@@ -6,13 +6,13 @@ use mathlib.Core.List.{List}
 use lib.Dec.{eqb}
 use Rattle.token.specs.Kind.{Newline}
 use Rattle.records.specs.Table.{linked, zeroed, nodeWidth}
-use Rattle.parser.specs.declared.Parser.{Parser}
+use Rattle.parser.specs.declared.State.{State}
 use Rattle.parser.specs.declared.Got.the-variants.{Node, Stop}
 use Rattle.parser.specs.declared.Parsed as answers
 use Rattle.parser.specs.Tokens.{count, kindAt}
-use Rattle.parser.specs.Tables.{Read, read, andThen, consumeAt}
+use Rattle.parser.specs.Tables.{Reply, reply, andThen, consumeAt}
 use Rattle.parser.specs.Programs.{Reader, Declaration}
-use Rattle.parser.specs.Reading.{firstOf, lower}
+use Rattle.parser.specs.Grammar.{firstOf, lower}
 
 -- what a parsing comes to: outcome, counts, first statement, and the tables of errors and nodes
 pub record Parsed : Type 0 where
@@ -29,12 +29,12 @@ ends outcome first kept errors E N = record { outcome = outcome; errorCount = er
 
 -- a top-level statement, finished after its newline test; `declaration(true)`
 unfoldable pub topLevel : List ℕ → Reader
-topLevel T p E N = andThen (lower T 128 Declaration p E N) λ f q E N. andThen (consumeAt T Newline 4 q E N) λ g r E N. read r (Node f) E N
+topLevel T p E N = andThen (lower T 128 Declaration p E N) λ f q E N. andThen (consumeAt T Newline 4 q E N) λ g r E N. reply r (Node f) E N
 
 -- a statement that stops the reading leaves none of its nodes; its errors are kept
-abbrev pub orEnds : ℕ → ℕ → Read → (ℕ → Parser → List ℕ → List ℕ → Parsed) → Parsed
-orEnds first kept (read q (Node f) E N) k = k (f .node) q E N
-orEnds first kept (read q (Stop o) E N) k = ends o first kept (q .errors) E N
+abbrev pub orEnds : ℕ → ℕ → Reply → (ℕ → State → List ℕ → List ℕ → Parsed) → Parsed
+orEnds first kept (reply q (Node f) E N) k = k (f .node) q E N
+orEnds first kept (reply q (Stop o) E N) k = ends o first kept (q .errors) E N
 
 -- by whether EOF is reached
 abbrev pub ifEnd : Bool → (Unit {0} → Parsed) → (Unit {0} → Parsed) → Parsed
@@ -42,7 +42,7 @@ ifEnd true a b = a tt
 ifEnd false a b = b tt
 
 -- `while !self.is_at_end()`
-unfoldable pub statements : ℕ → List ℕ → ℕ → ℕ → Parser → List ℕ → List ℕ → Parsed
+unfoldable pub statements : ℕ → List ℕ → ℕ → ℕ → State → List ℕ → List ℕ → Parsed
 statements zero T first last p E N = ends 99 first (p .nodes) (p .errors) E N
 statements (suc f) T first last p E N =
     ifEnd (eqb (kindAt T (p .current)) 0) (λ _. ends 0 first (p .nodes) (p .errors) E N) λ _.

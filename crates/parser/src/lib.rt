@@ -5,15 +5,15 @@ ghost use mathlib.Core.Bool.{not};
 ghost use Prim.Native.Nat.{ℕ, _-_};
 ghost use lib.Dec.{eqb};
 ghost use Rattle.parser.specs.Tokens.{kindAt, lineAt, after, skipLines, checkAt, matchesAt};
-ghost use Rattle.parser.specs.Tables.{Read, read, moved, looped, pushNode, pushError, plain, consumeAt, requireAt};
+ghost use Rattle.parser.specs.Tables.{Reply, reply, moved, looped, pushNode, pushError, plain, consumeAt, requireAt};
 ghost use Rattle.parser.specs.Programs.{raised};
-ghost use Rattle.parser.specs.Reading.{firstOf};
+ghost use Rattle.parser.specs.Grammar.{firstOf};
 use records::InterpreterError;
 use records::Node;
 use token::Token;
 
 // Where the reading is: the token at the cursor, how many errors and nodes stand in their tables, and the open loops of the innermost function.
-pub struct Parser {
+pub struct State {
     pub current: u32,
     pub errors: u32,
     pub nodes: u32,
@@ -43,7 +43,7 @@ pub enum Got {
 
 // A reader's answer, with the state beside it.
 pub struct Out {
-    pub p: Parser,
+    pub p: State,
     pub got: Got,
 }
 
@@ -119,7 +119,7 @@ pub fn matches(tokens: &[u32], at: u32, kind: u32) -> Seen
 }
 
 // `is_at_end`: it passes no newlines.
-pub fn is_at_end(tokens: &[u32], p: Parser) -> bool
+pub fn is_at_end(tokens: &[u32], p: State) -> bool
     ensures { λ r. ⌜ r ≡ eqb (kindAt (now (tokens .entry)) (p .current)) 0 ⌝ }
 {
     let at = p.current;
@@ -128,12 +128,12 @@ pub fn is_at_end(tokens: &[u32], p: Parser) -> bool
 
 // ---- the state by value
 
-impl Parser {
+impl State {
     // The reading goes on at token i.
     pub fn at_token(self, i: u32) -> Self
         ensures { λ r. ⌜ r ≡ moved self i ⌝ }
     {
-        Parser {
+        State {
             current: i,
             errors: self.errors,
             nodes: self.nodes,
@@ -145,7 +145,7 @@ impl Parser {
     pub fn with_loops(self, n: u32) -> Self
         ensures { λ r. ⌜ r ≡ looped self n ⌝ }
     {
-        Parser {
+        State {
             current: self.current,
             errors: self.errors,
             nodes: self.nodes,
@@ -190,7 +190,7 @@ impl Parser {
 // ---- answers
 
 // A node, or a token's reference, that is nothing left of `=`.
-pub fn gives(p: Parser, n: u32) -> Out
+pub fn gives(p: State, n: u32) -> Out
     ensures { λ r. ⌜ r ≡ record { p = p; got = Got.Node (plain n) } ⌝ }
 {
     Out {
@@ -203,7 +203,7 @@ pub fn gives(p: Parser, n: u32) -> Out
     }
 }
 
-pub fn stopped(p: Parser, outcome: u32) -> Out
+pub fn stopped(p: State, outcome: u32) -> Out
     ensures { λ r. ⌜ r ≡ record { p = p; got = Got.Stop outcome } ⌝ }
 {
     Out {
@@ -222,13 +222,13 @@ pub fn first_of(first: u32, n: u32) -> u32
 }
 
 // One more node: its reference; 7 where it finds no room.
-pub fn make(nodes: &mut [u32], p: Parser, d: Node) -> Out
-    ensures { λ r. ⌜ ((E : List ℕ) → read (r .p) (r .got) E (now (nodes .exit)) ≡ pushNode d p E (now (nodes .entry))) ⌝ }
+pub fn make(nodes: &mut [u32], p: State, d: Node) -> Out
+    ensures { λ r. ⌜ ((E : List ℕ) → reply (r .p) (r .got) E (now (nodes .exit)) ≡ pushNode d p E (now (nodes .entry))) ⌝ }
 {
     let n = p.nodes;
     if records::push_node(nodes, n, d) {
         return gives(
-            Parser {
+            State {
                 current: p.current,
                 errors: p.errors,
                 nodes: n + 1,
@@ -241,8 +241,8 @@ pub fn make(nodes: &mut [u32], p: Parser, d: Node) -> Out
 }
 
 // The one function that makes a parser error: message, and the token whose line it reports; 6 where it finds no room.
-pub fn set_error(tokens: &[u32], errors: &mut [u32], p: Parser, message: u32, token: u32) -> Out
-    ensures { λ r. ⌜ ((N : List ℕ) → read (r .p) (r .got) (now (errors .exit)) N ≡ pushError (now (tokens .entry)) message token p (now (errors .entry)) N) ⌝ }
+pub fn set_error(tokens: &[u32], errors: &mut [u32], p: State, message: u32, token: u32) -> Out
+    ensures { λ r. ⌜ ((N : List ℕ) → reply (r .p) (r .got) (now (errors .exit)) N ≡ pushError (now (tokens .entry)) message token p (now (errors .entry)) N) ⌝ }
 {
     let n = p.errors;
     let line = line_at(tokens, token);
@@ -253,7 +253,7 @@ pub fn set_error(tokens: &[u32], errors: &mut [u32], p: Parser, message: u32, to
     };
     if records::push_error(errors, n, e) {
         return gives(
-            Parser {
+            State {
                 current: p.current,
                 errors: n + 1,
                 nodes: p.nodes,
@@ -266,8 +266,8 @@ pub fn set_error(tokens: &[u32], errors: &mut [u32], p: Parser, message: u32, to
 }
 
 // `consume`: the token's reference; or its absence is an error, and 0.
-pub fn consume(tokens: &[u32], errors: &mut [u32], p: Parser, kind: u32, message: u32) -> Out
-    ensures { λ r. ⌜ ((N : List ℕ) → read (r .p) (r .got) (now (errors .exit)) N ≡ consumeAt (now (tokens .entry)) kind message p (now (errors .entry)) N) ⌝ }
+pub fn consume(tokens: &[u32], errors: &mut [u32], p: State, kind: u32, message: u32) -> Out
+    ensures { λ r. ⌜ ((N : List ℕ) → reply (r .p) (r .got) (now (errors .exit)) N ≡ consumeAt (now (tokens .entry)) kind message p (now (errors .entry)) N) ⌝ }
 {
     let at = p.current;
     match matches(tokens, at, kind) {
@@ -277,8 +277,8 @@ pub fn consume(tokens: &[u32], errors: &mut [u32], p: Parser, kind: u32, message
 }
 
 // A `consume` whose result is unwrapped: its failure stops the reading.
-pub fn require(tokens: &[u32], errors: &mut [u32], p: Parser, kind: u32, message: u32) -> Out
-    ensures { λ r. ⌜ ((N : List ℕ) → read (r .p) (r .got) (now (errors .exit)) N ≡ requireAt (now (tokens .entry)) kind message p (now (errors .entry)) N) ⌝ }
+pub fn require(tokens: &[u32], errors: &mut [u32], p: State, kind: u32, message: u32) -> Out
+    ensures { λ r. ⌜ ((N : List ℕ) → reply (r .p) (r .got) (now (errors .exit)) N ≡ requireAt (now (tokens .entry)) kind message p (now (errors .entry)) N) ⌝ }
 {
     let at = p.current;
     match matches(tokens, at, kind) {

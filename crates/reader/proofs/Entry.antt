@@ -12,8 +12,7 @@ use Rattle.lexer.specs.Lex.{Result, lexedOf, Lexing}
 use Rattle.parser.specs.declared.Parsed as answers
 use Rattle.parser.specs.Whole.{Parsed, parsed, Parsing}
 use Rattle.reader.specs.declared.Answer.{Answer}
-use Rattle.reader.specs.Reading.{Reading, over, refused, joined, pickReading, readAfter, reading, Answers}
-use Rattle.reader.specs.Sizes.{unread}
+use Rattle.reader.specs.Reading.{Reading, over, refused, joined, pickReading, readAfter, reading, Answers, unread}
 
 -- the code asks whether an outcome is neither 3 nor 4
 pub neither : (o : ℕ) → not (eqb o 3) && not (eqb o 4) ≡ true → unread o ≡ false

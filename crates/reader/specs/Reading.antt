@@ -38,11 +38,15 @@ abbrev pub pickReading : Bool → (Unit {0} → Reading) → (Unit {0} → Readi
 pickReading true a b = a tt
 pickReading false a b = b tt
 
+-- outcomes 3 and 4: the source is no text, or too long, and nothing of it is read
+abbrev pub unread : ℕ → Bool
+unread o = eqb o 3 || eqb o 4
+
 -- after 3 and 4 the node table is unchanged; after 2, 5 and 6 of lexing every word of it is 0; else what was lexed is parsed
 abbrev pub readAfter : Result → List ℕ → List ℕ → List ℕ → Reading
 readAfter d T E N =
     pickReading (eqb (d .outcome) 0) (λ _. joined (d .tokenCount) T (parsed T (d .errorCount) E N)) λ _.
-    pickReading (eqb (d .outcome) 3 || eqb (d .outcome) 4) (λ _. refused d T E N) λ _.
+    pickReading (unread (d .outcome)) (λ _. refused d T E N) λ _.
     refused d T E (zeroed nodeWidth N 0)
 
 -- the reading of any bytes into tables t, e and n

@@ -1,18 +1,18 @@
 // `parse`: the top-level statements, what is kept, and the answer.
 ghost use mathlib.Core.Path.{_≡_};
-ghost use Rattle.parser.specs.Tables.{read};
+ghost use Rattle.parser.specs.Tables.{reply};
 ghost use Rattle.parser.specs.Whole.{topLevel, parsed, Parsing};
 use parser::Got;
 use parser::Out;
 use parser::Parsed;
-use parser::Parser;
+use parser::State;
 use token::Token;
 
 // `parse`: the top-level statements; each is finished after its newline test.
 pub fn parse(tokens: &[u32], errors: &mut [u32], nodes: &mut [u32], recorded: u32) -> Parsed
     ensures { λ r. ⌜ Parsing (parsed (now (tokens .entry)) recorded (now (errors .entry)) (now (nodes .entry))) r (now (errors .exit)) (now (nodes .exit)) ⌝ }
 {
-    let mut s = Parser {
+    let mut s = State {
         current: 0,
         errors: recorded,
         nodes: 0,
@@ -55,10 +55,10 @@ pub fn parse(tokens: &[u32], errors: &mut [u32], nodes: &mut [u32], recorded: u3
 }
 
 // A top-level statement and its newline test: what `parse` does at each turn, and a read of one statement once.
-pub fn top_level(tokens: &[u32], errors: &mut [u32], nodes: &mut [u32], p: Parser) -> Out
-    ensures { λ r. ⌜ read (r .p) (r .got) (now (errors .exit)) (now (nodes .exit)) ≡ topLevel (now (tokens .entry)) p (now (errors .entry)) (now (nodes .entry)) ⌝ }
+pub fn top_level(tokens: &[u32], errors: &mut [u32], nodes: &mut [u32], p: State) -> Out
+    ensures { λ r. ⌜ reply (r .p) (r .got) (now (errors .exit)) (now (nodes .exit)) ≡ topLevel (now (tokens .entry)) p (now (errors .entry)) (now (nodes .entry)) ⌝ }
 {
-    let g = readers::declaration(tokens, errors, nodes, p, 128);
+    let g = grammar::declaration(tokens, errors, nodes, p, 128);
     let k = g.got;
     let Got::Node(_) = k else {
         return g;

@@ -2,7 +2,7 @@
 use mathlib.Core.Path.{_∙_}
 use borrow.Author.Needs.{needs}
 use Rattle.pair.specs.Pair.{left}
-use Rattle.pair.proofs.Cases.{parts, read-again, read-refuses, read-reads}
+use Rattle.pair.proofs.Cases.{parts, next-again, next-refuses, next-goes-on}
 use Rattle.pair.proofs.step.Statement.{statement}
 use Rattle.pair.proofs.step.Tie as tie
 
@@ -24,7 +24,7 @@ same-length-3 c = search needs
 returns : tie.Need-returns
 returns c =
     let a = c .before .before .before .before .before .before .before .before .before .before .before .before .before .before .before .before .before .before .before .args in
-    parts _ _ (c .before .before .before .before .one .ensures ∙ read-reads (a .tokens .now) (a .errors .now) (a .nodes .now) (a .p) (c .before .before .before .before .before .before .before .before .before .before .before .before .before .if1 .taken) _ (c .before .before .before .before .before .before .before .before .before .fits2 .ensures) (c .before .before .before .before .before .before .before .before .if2 .taken))
+    parts _ _ (c .before .before .before .before .one .ensures ∙ next-goes-on (a .tokens .now) (a .errors .now) (a .nodes .now) (a .p) (c .before .before .before .before .before .before .before .before .before .before .before .before .before .if1 .taken) _ (c .before .before .before .before .before .before .before .before .before .fits2 .ensures) (c .before .before .before .before .before .before .before .before .if2 .taken))
 
 same-length-4 : tie.Need-same-length-4
 same-length-4 c = search needs
@@ -38,7 +38,7 @@ same-length-6 c = search needs
 returns-2 : tie.Need-returns-2
 returns-2 c =
     let a = c .before .before .before .before .before .before .before .before .before .before .before .args in
-    parts _ _ (read-refuses (a .tokens .now) (a .errors .now) (a .nodes .now) (a .p) (c .before .before .before .before .before .if1 .taken) _ (c .before .fits2 .ensures) (c .if2 .left))
+    parts _ _ (next-refuses (a .tokens .now) (a .errors .now) (a .nodes .now) (a .p) (c .before .before .before .before .before .if1 .taken) _ (c .before .fits2 .ensures) (c .if2 .left))
 
 leave-requires : tie.Need-leave-requires
 leave-requires c κs = search needs
@@ -46,7 +46,7 @@ leave-requires c κs = search needs
 returns-3 : tie.Need-returns-3
 returns-3 c =
     let a = c .before .before .before .before .before .before .before .args in
-    parts _ _ ((λ i. left (c .leave .ensures i) (a .tokens .now) (a .errors .now) (a .nodes .now)) ∙ read-again (a .tokens .now) (a .errors .now) (a .nodes .now) (a .p) (c .before .if1 .left))
+    parts _ _ ((λ i. left (c .leave .ensures i) (a .tokens .now) (a .errors .now) (a .nodes .now)) ∙ next-again (a .tokens .now) (a .errors .now) (a .nodes .now) (a .p) (c .before .if1 .left))
 
 pub step-spec : {M : Type 1} → statement M
 step-spec =

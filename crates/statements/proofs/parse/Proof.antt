@@ -6,7 +6,7 @@ use Prim.Native.Nat.{ℕ, suc, _-_, _≤_, _<_}
 use native.Mathlib.Omega.{arith}
 use lib.Dec.{eqb}
 use lib.ListN.{length}
-use Rattle.parser.specs.declared.Parser.{Parser}
+use Rattle.parser.specs.declared.State.{State}
 use Rattle.parser.specs.Tokens.{count, kindAt}
 use Rattle.parser.specs.Whole.{parsed, statements}
 use Rattle.statements.proofs.TopLevel.{at-end, stops, goes-on, statement-past, answered}
@@ -22,7 +22,7 @@ use Rattle.records.proofs.zero_rest.Reads as zero-rest-reads
 use Rattle.statements.proofs.top_level.Reads as top-level-reads
 
 -- the statements that are left are the rest of the whole, with fuel for a turn for each token that is left
-record ParseInv (T E₀ N₀ : List ℕ) (s₀ : Parser) (E N : List ℕ) (s : Parser) (first last : ℕ) : Type 0 where
+record ParseInv (T E₀ N₀ : List ℕ) (s₀ : State) (E N : List ℕ) (s : State) (first last : ℕ) : Type 0 where
   fuel : ℕ
   enough : count T - s .current ≤ fuel
   same : statements (suc fuel) T first last s E N ≡ statements (suc (count T)) T 0 0 s₀ E₀ N₀

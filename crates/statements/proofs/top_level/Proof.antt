@@ -6,7 +6,7 @@ use Rattle.statements.proofs.top_level.Tie as tie
 use Rattle.statements.proofs.top_level.Reads as reads
 use Rattle.statements.proofs.top_level.Lts as lts
 use Rattle.parser.proofs.consume.Reads as consume-reads
-use Rattle.readers.proofs.declaration.Reads as declaration-reads
+use Rattle.grammar.proofs.declaration.Reads as declaration-reads
 
 declaration-requires : tie.Need-declaration-requires
 declaration-requires c κs = search needs

@@ -1,0 +1,62 @@
+-- The cycle of calls: each member's proof is a module below.
+mod Measures
+mod Access
+mod Arguments
+mod Assignment
+mod Binary
+mod Block
+mod Call
+mod Class
+mod Declaration
+mod Elifs
+mod FnExpr
+mod FnStmt
+mod ForC
+mod ForIn
+mod ForLoop
+mod Func
+mod IfStmt
+mod LetStmt
+mod Methods
+mod Pairs
+mod Primary
+mod Ret
+mod Slice
+mod Stmt
+mod TryCatch
+mod Unary
+mod Upto
+mod WhileStmt
+use Rattle.grammar.proofs.+access+arguments+assignment+binary+block+call+class+declaration+elifs+fn_expr+fn_stmt+for_c+for_in+for_loop+func+if_stmt+let_stmt+methods+pairs+primary+ret+slice+stmt+try_catch+unary+upto+while_stmt.{statement}
+use Rattle.grammar.proofs.+access+arguments+assignment+binary+block+call+class+declaration+elifs+fn_expr+fn_stmt+for_c+for_in+for_loop+func+if_stmt+let_stmt+methods+pairs+primary+ret+slice+stmt+try_catch+unary+upto+while_stmt.Tie.{close}
+use Measures.{μ-access, μ-arguments, μ-assignment, μ-binary, μ-block, μ-call, μ-class, μ-declaration, μ-elifs, μ-fn-expr, μ-fn-stmt, μ-for-c, μ-for-in, μ-for-loop, μ-func, μ-if-stmt, μ-let-stmt, μ-methods, μ-pairs, μ-primary, μ-ret, μ-slice, μ-stmt, μ-try-catch, μ-unary, μ-upto, μ-while-stmt}
+use Access.{access-ok}
+use Arguments.{arguments-ok}
+use Assignment.{assignment-ok}
+use Binary.{binary-ok}
+use Block.{block-ok}
+use Call.{call-ok}
+use Class.{class-ok}
+use Declaration.{declaration-ok}
+use Elifs.{elifs-ok}
+use FnExpr.{fn-expr-ok}
+use FnStmt.{fn-stmt-ok}
+use ForC.{for-c-ok}
+use ForIn.{for-in-ok}
+use ForLoop.{for-loop-ok}
+use Func.{func-ok}
+use IfStmt.{if-stmt-ok}
+use LetStmt.{let-stmt-ok}
+use Methods.{methods-ok}
+use Pairs.{pairs-ok}
+use Primary.{primary-ok}
+use Ret.{ret-ok}
+use Slice.{slice-ok}
+use Stmt.{stmt-ok}
+use TryCatch.{try-catch-ok}
+use Unary.{unary-ok}
+use Upto.{upto-ok}
+use WhileStmt.{while-stmt-ok}
+
+pub +access+arguments+assignment+binary+block+call+class+declaration+elifs+fn-expr+fn-stmt+for-c+for-in+for-loop+func+if-stmt+let-stmt+methods+pairs+primary+ret+slice+stmt+try-catch+unary+upto+while-stmt-spec : {M : Type 1} → statement M
++access+arguments+assignment+binary+block+call+class+declaration+elifs+fn-expr+fn-stmt+for-c+for-in+for-loop+func+if-stmt+let-stmt+methods+pairs+primary+ret+slice+stmt+try-catch+unary+upto+while-stmt-spec = close μ-access μ-arguments μ-assignment μ-binary μ-block μ-call μ-class μ-declaration μ-elifs μ-fn-expr μ-fn-stmt μ-for-c μ-for-in μ-for-loop μ-func μ-if-stmt μ-let-stmt μ-methods μ-pairs μ-primary μ-ret μ-slice μ-stmt μ-try-catch μ-unary μ-upto μ-while-stmt access-ok arguments-ok assignment-ok binary-ok block-ok call-ok class-ok declaration-ok elifs-ok fn-expr-ok fn-stmt-ok for-c-ok for-in-ok for-loop-ok func-ok if-stmt-ok let-stmt-ok methods-ok pairs-ok primary-ok ret-ok slice-ok stmt-ok try-catch-ok unary-ok upto-ok while-stmt-ok

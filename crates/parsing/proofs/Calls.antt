@@ -1,0 +1,168 @@
+-- The comparison of names in `leave_function` never fails: with the names kept, every program does what it does without them. Assumes nothing.
+use mathlib.Core.Path.{_≡_, refl, subst, subst⁻¹}
+use mathlib.Core.Bool.{Bool, true, false}
+use mathlib.Core.List.{List, _∷_}
+use Prim.Native.Nat.{ℕ, zero, suc, _+_, _-_}
+use native.Mathlib.Omega.{arith}
+use borrow.Author.Tests.{eq-eqb}
+use lib.Dec.{ltb, eqb}
+use lib.ListN.{length}
+use Rattle.records.specs.Table.{room, put, linked, errorWidth, nodeWidth}
+use Rattle.records.specs.Words.{errorWords, nodeWords}
+use Rattle.records.specs.declared.Node as rows
+use Rattle.parser.specs.declared.State.{State}
+use Rattle.parser.specs.declared.Found.{Found}
+use Rattle.parser.specs.declared.Seen.{Seen}
+use Rattle.parser.specs.declared.Seen.the-variants.{At, Nothing}
+use Rattle.parser.specs.declared.Got.the-variants.{Node, Stop}
+use Rattle.parser.specs.Tokens.{kindAt, lineAt, checkAt, matchesAt}
+use Rattle.parser.specs.Tables.{Reply, reply, moved, looped, plain, pushNode, pushError, ifSeen, andThen, consumeAt, requireAt}
+use Rattle.parser.specs.Programs.{Reader, Which, Prog, give, stop, _>>=_, _>>_, look, check, atEnd, previous, node, link, fail, failAt, consume, require, enterLoop, leaveLoop, insideLoop, inFunction, down, raised, either, restored, run}
+use Rattle.parsing.specs.Calls.{Name, called, lambda, Call, nameOf, sameName, withLoops, Named, named, unequal, NamedReader, thenNamed, ifNamed, eitherNamed, leave, runNamed, lowerNamed}
+use Rattle.parser.specs.Grammar.{body, lower}
+
+-- the answer with names, and the answer without: the same, but that the loop count stands on top of the stack; with a node the functions on the stack are those of before
+pub data Agree (cs : List Call) : Named → Reply → Type 0 where
+  nodes : (p : State) (f : Found) (E N : List ℕ) (n : ℕ) → Agree cs (named (reply p (Node f) E N) (withLoops cs n)) (reply (looped p n) (Node f) E N)
+  stops : (p : State) (o : ℕ) (E N : List ℕ) (ds : List Call) (n : ℕ) → Agree cs (named (reply p (Stop o) E N) ds) (reply (looped p n) (Stop o) E N)
+
+-- a reader with names, and the same without
+abbrev pub Agrees : NamedReader → Reader → Type 0
+Agrees a r = (c : Call) (cs : List Call) (p : State) (E N : List ℕ) → Agree (c ∷ cs) (a p (c ∷ cs) E N) (r (looped p (c .loops)) E N)
+
+-- ---- joining
+agree-then : (c : Call) (cs : List Call) (x : Named) (y : Reply) (j : Found → NamedReader) (k : Found → Reader) → Agree (c ∷ cs) x y → ((f : Found) → Agrees (j f) (k f))
+    → Agree (c ∷ cs) (thenNamed x j) (andThen y k)
+agree-then c cs _ _ j k (nodes p f E N n) h = step (h f (record { function = c .function; loops = n }) cs p E N)
+  where
+    step : {x : Named} {y : Reply} → Agree (record { function = c .function; loops = n } ∷ cs) x y → Agree (c ∷ cs) x y
+    step (nodes p f E N n) = nodes p f E N n
+    step (stops p o E N ds n) = stops p o E N ds n
+agree-then c cs _ _ j k (stops p o E N ds n) h = stops p o E N ds n
+
+agree-seen : (cs : List Call) (s : Seen) (a : ℕ → Named) (b : Unit {0} → Named) (c : ℕ → Reply) (d : Unit {0} → Reply) → ((i : ℕ) → Agree cs (a i) (c i)) → Agree cs (b tt) (d tt)
+    → Agree cs (ifNamed s a b) (ifSeen s c d)
+agree-seen cs (At i) a b c d h g = h i
+agree-seen cs Nothing a b c d h g = g
+
+agree-either : (cs : List Call) (t : Bool) (a b : Unit {0} → Named) (c d : Unit {0} → Reply) → Agree cs (a tt) (c tt) → Agree cs (b tt) (d tt) → Agree cs (eitherNamed t a b) (either t c d)
+agree-either cs true a b c d h g = h
+agree-either cs false a b c d h g = g
+
+-- ---- leaves: the loop count is not looked at
+module _ (c : Call) (cs : List Call) (p : State) where
+  agree-node : (d : rows.Node) (E N : List ℕ) → Agree (c ∷ cs) (named (pushNode d p E N) (c ∷ cs)) (pushNode d (looped p (c .loops)) E N)
+  unfolding pushNode
+  agree-node d E N = go (ltb (p .nodes) (room nodeWidth N))
+    where
+      go : (b : Bool) → Agree (c ∷ cs)
+          (named (elim b [
+            | true ↦ reply (record { current = p .current; errors = p .errors; nodes = p .nodes + 1; loops = p .loops }) (Node (plain (p .nodes + 1))) E (put nodeWidth N (p .nodes) (nodeWords d))
+            | false ↦ reply p (Stop 7) E N
+          ]) (c ∷ cs))
+          (elim b [
+            | true ↦ reply (record { current = p .current; errors = p .errors; nodes = p .nodes + 1; loops = c .loops }) (Node (plain (p .nodes + 1))) E (put nodeWidth N (p .nodes) (nodeWords d))
+            | false ↦ reply (looped p (c .loops)) (Stop 7) E N
+          ])
+      go true = nodes _ _ E _ (c .loops)
+      go false = stops p 7 E N _ (c .loops)
+
+  agree-error : (T : List ℕ) (message i : ℕ) (E N : List ℕ) → Agree (c ∷ cs) (named (pushError T message i p E N) (c ∷ cs)) (pushError T message i (looped p (c .loops)) E N)
+  unfolding pushError
+  agree-error T message i E N = go (ltb (p .errors) (room errorWidth E))
+    where
+      e : List ℕ
+      e = put errorWidth E (p .errors) (errorWords (record { message = message; line = lineAt T i; pos = 0 }))
+
+      go : (b : Bool) → Agree (c ∷ cs)
+          (named (elim b [
+            | true ↦ reply (record { current = p .current; errors = p .errors + 1; nodes = p .nodes; loops = p .loops }) (Node (plain 0)) e N
+            | false ↦ reply p (Stop 6) E N
+          ]) (c ∷ cs))
+          (elim b [
+            | true ↦ reply (record { current = p .current; errors = p .errors + 1; nodes = p .nodes; loops = c .loops }) (Node (plain 0)) e N
+            | false ↦ reply (looped p (c .loops)) (Stop 6) E N
+          ])
+      go true = nodes _ _ e N (c .loops)
+      go false = stops p 6 E N _ (c .loops)
+
+  agree-consume : (T : List ℕ) (kind message : ℕ) (E N : List ℕ) → Agree (c ∷ cs) (named (consumeAt T kind message p E N) (c ∷ cs)) (consumeAt T kind message (looped p (c .loops)) E N)
+  unfolding consumeAt
+  agree-consume T kind message E N = go (matchesAt T (p .current) kind)
+    where
+      go : (s : Seen) → Agree (c ∷ cs)
+          (named (ifSeen s (λ i. reply (moved p i) (Node (plain i)) E N) λ _. pushError T message (p .current) p E N) (c ∷ cs))
+          (ifSeen s (λ i. reply (moved (looped p (c .loops)) i) (Node (plain i)) E N) λ _. pushError T message (p .current) (looped p (c .loops)) E N)
+      go (At i) = nodes (moved p i) (plain i) E N (c .loops)
+      go Nothing = agree-error T message (p .current) E N
+
+  stopping : {x : Named} {y : Reply} → Agree (c ∷ cs) x y → Agree (c ∷ cs) (thenNamed x λ f q ds E N. named (reply q (Stop 1) E N) ds) (andThen y λ f q E N. reply q (Stop 1) E N)
+  stopping (nodes p f E N n) = stops p 1 E N _ n
+  stopping (stops p o E N ds n) = stops p o E N ds n
+
+  -- a stop within a named answer
+  inner : (x : Reply) → thenNamed (named x (c ∷ cs)) (λ f q ds E N. named (reply q (Stop 1) E N) ds) ≡ named (andThen x λ f q E N. reply q (Stop 1) E N) (c ∷ cs)
+  inner (reply q (Node f) E N) = refl
+  inner (reply q (Stop o) E N) = refl
+
+  agree-require : (T : List ℕ) (kind message : ℕ) (E N : List ℕ) → Agree (c ∷ cs) (named (requireAt T kind message p E N) (c ∷ cs)) (requireAt T kind message (looped p (c .loops)) E N)
+  unfolding requireAt
+  agree-require T kind message E N = go (matchesAt T (p .current) kind)
+    where
+      go : (s : Seen) → Agree (c ∷ cs)
+          (named (ifSeen s (λ i. reply (moved p i) (Node (plain i)) E N) λ _. andThen (pushError T message (p .current) p E N) λ f q E N. reply q (Stop 1) E N) (c ∷ cs))
+          (ifSeen s (λ i. reply (moved (looped p (c .loops)) i) (Node (plain i)) E N) λ _. andThen (pushError T message (p .current) (looped p (c .loops)) E N) λ f q E N. reply q (Stop 1) E N)
+      go (At i) = nodes (moved p i) (plain i) E N (c .loops)
+      go Nothing =
+          subst (λ (x : Named). Agree (c ∷ cs) x (andThen (pushError T message (p .current) (looped p (c .loops)) E N) λ f q E N. reply q (Stop 1) E N)) (inner (pushError T message (p .current) p E N))
+          (stopping (agree-error T message (p .current) E N))
+
+-- ---- the name on top is the one that was given
+same-name : (n : Name) → sameName n n ≡ true
+same-name (called a) = eq-eqb a a refl
+same-name (lambda a) = eq-eqb a a refl
+
+agree-leave : (n : Name) (c : Call) (cs : List Call) (p : State) {x : Named} {y : Reply} → Agree (record { function = n; loops = 0 } ∷ c ∷ cs) x y → Agree (c ∷ cs) (leave n x) (restored (looped p (c .loops)) y)
+agree-leave n c cs p (nodes q f E N k) =
+    subst⁻¹ (λ (b : Bool). Agree (c ∷ cs) (eitherNamed b (λ _. named (reply q (Node f) E N) (c ∷ cs)) λ _. unequal) (reply (looped q (c .loops)) (Node f) E N))
+    (same-name n) (nodes q f E N (c .loops))
+agree-leave n c cs p (stops q o E N ds k) = stops q o E N ds k
+
+-- ---- every program
+module _ (T : List ℕ) (a : Which → NamedReader) (low : Which → Reader) (h : (w : Which) → Agrees (a w) (low w)) where
+  pub run-agrees : (P : Prog) → Agrees (runNamed T a P) (run T low P)
+  unfolding runNamed run
+  run-agrees (give f) c cs p E N = nodes p f E N (c .loops)
+  run-agrees (stop o) c cs p E N = stops p o E N _ (c .loops)
+  run-agrees (m >>= k) c cs p E N = agree-then c cs _ _ _ _ (run-agrees m c cs p E N) λ f. run-agrees (k f)
+  run-agrees (m >> k) c cs p E N = agree-then c cs _ _ _ _ (run-agrees m c cs p E N) λ f. run-agrees k
+  run-agrees (look kind found missing) c cs p E N = agree-seen (c ∷ cs) (matchesAt T (p .current) kind) _ _ _ _ (λ i. run-agrees (found i) c cs (moved p i) E N) (run-agrees missing c cs p E N)
+  run-agrees (check kind found missing) c cs p E N = agree-seen (c ∷ cs) (checkAt T (p .current) kind) _ _ _ _ (λ i. run-agrees found c cs (moved p i) E N) (run-agrees missing c cs p E N)
+  run-agrees (atEnd found missing) c cs p E N = agree-either (c ∷ cs) (eqb (kindAt T (p .current)) 0) _ _ _ _ (run-agrees found c cs p E N) (run-agrees missing c cs p E N)
+  run-agrees previous c cs p E N = nodes p (plain (p .current)) E N (c .loops)
+  run-agrees (node d) c cs p E N = agree-node c cs p d E N
+  run-agrees (link prev next) c cs p E N = nodes p (plain 0) E (linked N prev next) (c .loops)
+  run-agrees (fail message) c cs p E N = agree-error c cs p T message (p .current) E N
+  run-agrees (failAt message token) c cs p E N = agree-error c cs p T message (token - 1) E N
+  run-agrees (consume kind message) c cs p E N = agree-consume c cs p T kind message E N
+  run-agrees (require kind message) c cs p E N = agree-require c cs p T kind message E N
+  run-agrees enterLoop c cs p E N = nodes p (plain 0) E N (raised (c .loops))
+  run-agrees leaveLoop c cs p E N = nodes p (plain 0) E N (c .loops - 1)
+  run-agrees (insideLoop found missing) c cs p E N = agree-either (c ∷ cs) (eqb (c .loops) 0) _ _ _ _ (run-agrees missing c cs p E N) (run-agrees found c cs p E N)
+  run-agrees (inFunction token m) c cs p E N =
+      agree-leave (nameOf token (suc (length cs))) c cs p (run-agrees m (record { function = nameOf token (suc (length cs)); loops = 0 }) (c ∷ cs) p E N)
+  run-agrees (down w) c cs p E N = h w c cs p E N
+
+-- every reading, at every level
+pub lower-agrees : (T : List ℕ) (l : ℕ) (w : Which) → Agrees (lowerNamed T l w) (lower T l w)
+unfolding lowerNamed lower
+lower-agrees T zero w c cs p E N = stops p 8 E N _ (c .loops)
+lower-agrees T (suc l) w c cs p E N = run-agrees T (lowerNamed T l) (lower T l) (lower-agrees T l) (body T w) c cs p E N
+
+agree-equal : (cs : List Call) (x : Named) (y : Reply) → Agree cs x y → x ≡ unequal → ⊥
+agree-equal cs _ _ (nodes p f E N n) e = let z : _≡_ {A = ℕ} 0 1 = cc in absurd (omega arith)
+agree-equal cs _ _ (stops p o E N ds n) e = let z : _≡_ {A = ℕ} 0 1 = cc in absurd (omega arith)
+
+-- the unequal-names branch of `leave_function` is unreachable
+pub never-unequal : (T : List ℕ) (l : ℕ) (w : Which) (c : Call) (cs : List Call) (p : State) (E N : List ℕ) → lowerNamed T l w p (c ∷ cs) E N ≡ unequal → ⊥
+never-unequal T l w c cs p E N = agree-equal (c ∷ cs) _ _ (lower-agrees T l w c cs p E N)

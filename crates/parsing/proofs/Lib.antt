@@ -1,0 +1,5 @@
+pub mod Frame
+pub mod Sizes
+pub mod Same
+pub mod Ahead
+pub mod Calls

@@ -1,0 +1,113 @@
+-- The call stack of parser.rs with its names, as the Rust keeps it: a second meaning of the same programs. `leave_function` compares the name on top of the stack
+-- with the one that `enter_function` was given. That the comparison never fails is proved, so that the meaning in Programs, which keeps only loop counts, says the same.
+use Prim.Native.Nat.{ℕ, zero, suc, _-_}
+use mathlib.Core.Bool.{Bool, true, false}
+use mathlib.Core.List.{List, [], _∷_}
+use lib.Dec.{eqb}
+use lib.ListN.{length}
+use Rattle.records.specs.Table.{linked}
+use Rattle.parser.specs.declared.State.{State}
+use Rattle.parser.specs.declared.Found.{Found}
+use Rattle.parser.specs.declared.Seen.{Seen}
+use Rattle.parser.specs.declared.Seen.the-variants.{At, Nothing}
+use Rattle.parser.specs.declared.Got.the-variants.{Node, Stop}
+use Rattle.parser.specs.Tokens.{kindAt, checkAt, matchesAt}
+use Rattle.parser.specs.Tables.{Reply, reply, moved, plain, pushNode, pushError, consumeAt, requireAt}
+use Rattle.parser.specs.Programs.{Which, Prog, give, stop, _>>=_, _>>_, look, check, atEnd, previous, node, link, fail, failAt, consume, require, enterLoop, leaveLoop, insideLoop, inFunction, down, raised}
+use Rattle.parser.specs.Grammar.{body}
+
+-- a function's name: the token of a named one, or `lambda` and the number of functions that are open around it
+pub data Name : Type 0 where
+  called : ℕ → Name
+  lambda : ℕ → Name
+
+-- `CallStack`: a function's name and its loop count; the innermost comes first
+pub record Call : Type 0 where
+  pub function : Name
+  pub loops : ℕ
+
+-- the name that `enter_function` and `leave_function` are given
+abbrev pub pickName : Bool → ℕ → ℕ → Name
+pickName true token around = lambda around
+pickName false token around = called token
+
+-- the name of a function whose name is that token, or of a lambda, with so many functions open around it
+abbrev pub nameOf : ℕ → ℕ → Name
+nameOf token around = pickName (eqb token 0) token around
+
+-- two names by the same number are the same; a token's own name and a lambda's are not
+abbrev pub sameName : Name → Name → Bool
+sameName (called a) (called b) = eqb a b
+sameName (called a) (lambda b) = false
+sameName (lambda a) (called b) = false
+sameName (lambda a) (lambda b) = eqb a b
+
+-- the innermost function's loop count
+abbrev pub loopsOf : List Call → ℕ
+loopsOf [] = 0
+loopsOf (c ∷ cs) = c .loops
+
+-- the stack with that count
+abbrev pub withLoops : List Call → ℕ → List Call
+withLoops [] n = []
+withLoops (c ∷ cs) n = record { function = c .function; loops = n } ∷ cs
+
+-- an answer, with the call stack; or `leave_function` met another name
+pub data Named : Type 0 where
+  named : Reply → List Call → Named
+  unequal : Named
+
+-- a reader that takes and gives the call stack too
+abbrev pub NamedReader : Type 0
+NamedReader = State → List Call → List ℕ → List ℕ → Named
+
+-- on with what was found; a stop stops it
+abbrev pub thenNamed : Named → (Found → NamedReader) → Named
+thenNamed (named (reply p (Node f) E N) cs) k = k f p cs E N
+thenNamed (named (reply p (Stop o) E N) cs) k = named (reply p (Stop o) E N) cs
+thenNamed unequal k = unequal
+
+-- by whether a token was found
+abbrev pub ifNamed : Seen → (ℕ → Named) → (Unit {0} → Named) → Named
+ifNamed (At i) found missing = found i
+ifNamed Nothing found missing = missing tt
+
+-- by a test
+abbrev pub eitherNamed : Bool → (Unit {0} → Named) → (Unit {0} → Named) → Named
+eitherNamed true a b = a tt
+eitherNamed false a b = b tt
+
+-- `leave_function`: the function on top of the stack has the name, and is taken off
+abbrev pub leave : Name → Named → Named
+leave n (named (reply p (Node f) E N) (c ∷ cs)) = eitherNamed (sameName (c .function) n) (λ _. named (reply p (Node f) E N) cs) λ _. unequal
+leave n (named (reply p (Node f) E N) []) = unequal
+leave n (named (reply p (Stop o) E N) cs) = named (reply p (Stop o) E N) cs
+leave n unequal = unequal
+
+-- what a program does with the call stack; the state's own count of loops is not looked at
+unfoldable pub runNamed : List ℕ → (Which → NamedReader) → Prog → NamedReader
+runNamed T low (give f) p cs E N = named (reply p (Node f) E N) cs
+runNamed T low (stop o) p cs E N = named (reply p (Stop o) E N) cs
+runNamed T low (m >>= k) p cs E N = thenNamed (runNamed T low m p cs E N) λ f q cs E N. runNamed T low (k f) q cs E N
+runNamed T low (m >> k) p cs E N = thenNamed (runNamed T low m p cs E N) λ f q cs E N. runNamed T low k q cs E N
+runNamed T low (look kind found missing) p cs E N = ifNamed (matchesAt T (p .current) kind) (λ i. runNamed T low (found i) (moved p i) cs E N) λ _. runNamed T low missing p cs E N
+runNamed T low (check kind found missing) p cs E N = ifNamed (checkAt T (p .current) kind) (λ i. runNamed T low found (moved p i) cs E N) λ _. runNamed T low missing p cs E N
+runNamed T low (atEnd found missing) p cs E N = eitherNamed (eqb (kindAt T (p .current)) 0) (λ _. runNamed T low found p cs E N) λ _. runNamed T low missing p cs E N
+runNamed T low previous p cs E N = named (reply p (Node (plain (p .current))) E N) cs
+runNamed T low (node d) p cs E N = named (pushNode d p E N) cs
+runNamed T low (link prev next) p cs E N = named (reply p (Node (plain 0)) E (linked N prev next)) cs
+runNamed T low (fail message) p cs E N = named (pushError T message (p .current) p E N) cs
+runNamed T low (failAt message token) p cs E N = named (pushError T message (token - 1) p E N) cs
+runNamed T low (consume kind message) p cs E N = named (consumeAt T kind message p E N) cs
+runNamed T low (require kind message) p cs E N = named (requireAt T kind message p E N) cs
+runNamed T low enterLoop p cs E N = named (reply p (Node (plain 0)) E N) (withLoops cs (raised (loopsOf cs)))
+runNamed T low leaveLoop p cs E N = named (reply p (Node (plain 0)) E N) (withLoops cs (loopsOf cs - 1))
+runNamed T low (insideLoop found missing) p cs E N = eitherNamed (eqb (loopsOf cs) 0) (λ _. runNamed T low missing p cs E N) λ _. runNamed T low found p cs E N
+runNamed T low (inFunction token m) p cs E N =
+    leave (nameOf token (length cs)) (runNamed T low m p (record { function = nameOf token (length cs); loops = 0 } ∷ cs) E N)
+runNamed T low (down w) p cs E N = low w p cs E N
+
+-- with l levels left: a reading one level down
+unfoldable pub lowerNamed : List ℕ → ℕ → Which → NamedReader
+lowerNamed T zero w p cs E N = named (reply p (Stop 8) E N) cs
+lowerNamed T (suc l) w p cs E N = runNamed T (lowerNamed T l) (body T w) p cs E N

@@ -1,0 +1,2 @@
+pub mod NextKind
+pub mod Turns

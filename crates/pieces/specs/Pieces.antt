@@ -1,0 +1,113 @@
+-- Programs of the code's own functions, where the Rust has none of that name: parts of the readers.
+use Prim.Native.Nat.{ℕ, suc}
+use mathlib.Core.Bool.{Bool, true, false, _||_}
+use mathlib.Core.List.{List, [], _∷_}
+use lib.Dec.{eqb}
+use lib.ListN.{drop}
+use Rattle.token.specs.Kind.{RightParen, RightBrace, LeftCurlyBrace, RightCurlyBrace, Semicolon, Less, Else, Identifier, Number, String, False, True, Nil}
+use Rattle.parser.specs.declared.Found.{Found}
+use Rattle.parser.specs.declared.Form.the-variants.{Empty}
+use Rattle.parser.specs.Tables.{plain}
+use Rattle.parser.specs.Nodes.{row, varRow, listRow, dictionaryRow, callRow, groupingRow, getRow, emptyRow, classRow, classicForRow}
+use Rattle.parser.specs.Programs.{Reader, Which, Declaration, Prog, give, stop, _>>=_, _>>_, look, node, fail, failAt, consume, require, leaveLoop, insideLoop, down, run}
+use Rattle.parser.specs.Grammar.{nothing, expression, named, property, Level, levels, fuel, parameters, functionBody, elseFrom, binary, lower}
+
+-- a program with so many levels left
+abbrev pub runAt : List ℕ → ℕ → Prog → Reader
+runAt T l P = run T (lower T l) P
+
+-- the superclass, if `<` follows
+abbrev pub superclass : Prog
+superclass = look Less (λ i. do s ← consume Identifier 5; node (varRow (s .node))) nothing
+
+-- a class behind its methods
+abbrev pub endClass : ℕ → ℕ → ℕ → ℕ → Prog
+endClass name sup methods statics = do
+  consume RightCurlyBrace 7
+  node (classRow name methods statics sup)
+
+-- `brk` and `cont`: they differ in the node's kind
+abbrev pub jump : ℕ → ℕ → Prog
+jump kind keyword = do
+  insideLoop nothing (failAt 19 keyword)
+  node (row kind keyword 0 0 0 0 0 0)
+
+-- a name, which may stand left of `=`
+abbrev pub variable : ℕ → Prog
+variable token = do
+  n ← node (varRow token)
+  give (named token (n .node))
+
+-- an Empty
+abbrev pub empty : Prog
+empty = do
+  n ← node emptyRow
+  give (record { node = n .node; form = Empty; access = 0 })
+
+-- a grouping behind its expression
+abbrev pub grouping : ℕ → Prog
+grouping e = do
+  consume RightParen 12
+  node (groupingRow e)
+
+-- a list behind its elements
+abbrev pub listEnd : Found → Prog
+listEnd elements = do
+  brace ← require RightBrace 20
+  node (listRow (elements .node) (brace .node))
+
+-- a dictionary behind its elements
+abbrev pub dictionaryEnd : Found → Prog
+dictionaryEnd elements = do
+  brace ← require RightCurlyBrace 21
+  node (dictionaryRow (elements .node) (brace .node))
+
+-- a call behind its arguments
+abbrev pub callEnd : ℕ → Found → Prog
+callEnd callee args = do
+  paren ← require RightParen 26
+  node (callRow callee (paren .node) (args .node))
+
+-- a property behind its dot
+abbrev pub get : ℕ → Prog
+get object = do
+  name ← require Identifier 25
+  n ← node (getRow object (name .node))
+  give (property (name .node) object (n .node))
+
+-- whether a kind is among those
+unfoldable pub among : List ℕ → ℕ → Bool
+among [] kind = false
+among (k ∷ ks) kind = eqb kind k || among ks kind
+
+-- the kinds of a literal's token
+abbrev pub literals : List ℕ
+literals = Number ∷ String ∷ False ∷ True ∷ Nil ∷ []
+
+-- the number of the level, the first of them n, that has an operator of this kind; 0 if none has
+unfoldable pub rankIn : ℕ → List Level → ℕ → ℕ
+rankIn n [] kind = 0
+rankIn n (l ∷ ls) kind = elim (among (l .operators) kind) [ true ↦ n | false ↦ rankIn (suc n) ls kind ]
+
+module _ (T : List ℕ) where
+  -- a function from its parameters on
+  abbrev pub func : ℕ → ℕ → ℕ → Prog
+  func kind name message = do
+    params ← parameters T message
+    consume RightParen 12
+    stmts ← functionBody T
+    node (row kind name 0 0 (params .node) (stmts .node) 0 0)
+
+  -- a classic for behind its initializer
+  abbrev pub classic : ℕ → ℕ → Prog
+  classic keyword init = do
+    cond ← expression
+    consume Semicolon 15
+    inc ← expression
+    stmt ← down Declaration
+    leaveLoop
+    node (classicForRow keyword init (cond .node) (inc .node) (stmt .node))
+
+  -- the binary operators without those of the loosest so many levels
+  abbrev pub binaryAt : ℕ → Prog
+  binaryAt looser = binary T (drop looser levels)

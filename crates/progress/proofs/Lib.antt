@@ -1,0 +1,3 @@
+pub mod Leaf
+pub mod Moves
+pub mod Fuel

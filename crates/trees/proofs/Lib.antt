@@ -1,0 +1,5 @@
+pub mod TreeRows
+pub mod TreeTyping
+pub mod TreeLists
+pub mod TreeReaders
+pub mod Trees

@@ -1,0 +1,1 @@
+// No code: the shape of every tree that a parsing keeps.

@@ -1,0 +1,129 @@
+-- What begin leaves fits, so that calls from begin on answer 19 until the final answer is given, and never 18; and it comes. Assumes nothing.
+use mathlib.Core.Path.{_≡_, refl, sym, ap, subst, _∙_}
+use mathlib.Core.Bool.{Bool, true, false, not, _&&_, _||_}
+use mathlib.Core.List.{List, _++_}
+use mathlib.Core.Logic.{_⊎_, inl, inr}
+use Prim.Native.Nat.{ℕ, zero, suc, _+_, _*_, _≤_, _<_}
+use native.Mathlib.Omega.{arith}
+use lib.Dec.{eqb, ltb}
+use lib.ListN.{length, getD, drop, length-append, List·getD-append}
+use lib.Seq.{getD-append-add}
+use borrow.Author.Tests.{eqb-true, eq-eqb, ne-eqb}
+use Rattle.text.specs.Text.{isText}
+use Rattle.records.specs.Table.{room, tokenWidth, errorWidth, nodeWidth}
+use Rattle.records.specs.Words.{tokenWords}
+use Rattle.records.specs.Rows.{Rows}
+use Rattle.records.specs.declared.TokenData.{TokenData}
+use Rattle.records.proofs.Room.{room-length}
+use Rattle.records.proofs.Field.{field-room}
+use Rattle.records.proofs.Rows.{rows-length, row-at}
+use Rattle.lexer.specs.Lex.{Result, refusal, pickResult, lexed, lexedOf}
+use Rattle.lexer.specs.Kept.{Good, Eof, Ending, whole, short, Keeps}
+use Rattle.lexer.proofs.Kept.{lexed-keeps}
+use Rattle.lexer.proofs.Answer.{token-count, tokens-within, errors-within}
+use Rattle.parser.specs.Tokens.{kindAt}
+use Rattle.reader.specs.Reading.{over}
+use Rattle.whole.proofs.Sizes.{over-keeps}
+use Rattle.pair.specs.declared.Parser.{Parser}
+use Rattle.pair.specs.Pair.{Called, left, leaving, markedAs, final, pickCall, restOf, fresh, begun, noEof, onlyEof, nexts}
+use Rattle.turns.proofs.Steady as steady
+use Rattle.turns.proofs.Steady.{Fit, Steady, going, rest-steady, reads-steady, steady-ends}
+
+-- a lexing that reached the end keeps what every lexing keeps
+lexed-whole : (s : List ℕ) (a b : ℕ) → lexedOf s a b .outcome ≡ 0 → Keeps (length s) a b (lexedOf s a b)
+unfolding lexedOf
+lexed-whole s a b = at (ltb 65535 (length s)) (isText s)
+  where
+    at : (x y : Bool) → let r = pickResult x (refusal 4) (pickResult (not y) (refusal 3) (lexed s a b)) in r .outcome ≡ 0 → Keeps (length s) a b r
+    at true y z = absurd (omega (arith, z))
+    at false false z = absurd (omega (arith, z))
+    at false true z = lexed-keeps s a b
+
+module _ (n m : ℕ) (ws rest : List ℕ) (d : TokenData) (rows : Rows tokenWords (Good n) ws m) (eof : Eof n d) (fits : m + 1 ≤ room tokenWidth ((ws ++ tokenWords d) ++ rest)) where
+  abbrev T : List ℕ
+  T = (ws ++ tokenWords d) ++ rest
+
+  long : length ws ≡ 7 * m
+  long = rows-length tokenWords (Good n) tokenWidth (λ d. refl) ws m rows
+
+  front : length (ws ++ tokenWords d) ≡ 7 * m + 7
+  front = length-append ws (tokenWords d) ∙ (let a = long in omega arith)
+
+  -- no token before the last is EOF
+  kind-some : (i : ℕ) → i < m → kindAt T i ≡ 0 → ⊥
+  unfolding kindAt
+  kind-some i h z =
+      let x = row-at tokenWords (Good n) tokenWidth (λ d. refl) ws m rows i h in
+      let a = long in
+      let b = front in
+      let k : getD T (7 * i + 0) 0 ≡ x .0 .kind = List·getD-append (ws ++ tokenWords d) rest 0 (7 * i + 0) (omega arith) ∙ List·getD-append ws (tokenWords d) 0 (7 * i + 0) (omega arith) ∙ x .2 0 (omega arith) in
+      let e : x .0 .kind ≡ 0 = sym k ∙ sym (field-room 7 0 T i (omega arith)) ∙ z in
+      let g = x .1 .kind-from in
+      omega arith
+
+  -- the last is
+  kind-last : kindAt T m ≡ 0
+  unfolding kindAt
+  kind-last =
+      let a = long in
+      let b = front in
+      field-room 7 0 T m (omega arith) ∙ List·getD-append (ws ++ tokenWords d) rest 0 (7 * m + 0) (omega arith) ∙ ap (λ (k : ℕ). getD (ws ++ tokenWords d) (k + 0) 0) (sym long) ∙ getD-append-add ws (tokenWords d) 0 0 ∙ eof .kind-is
+
+  none-before : (j : ℕ) → j ≤ m → noEof T j ≡ true
+  unfolding noEof
+  none-before zero h = refl
+  none-before (suc j) h = ap (λ (b : Bool). not b && noEof T j) (ne-eqb (kindAt T j) 0 (kind-some j (omega arith))) ∙ none-before j (omega arith)
+
+  only : onlyEof T (suc m) ≡ true
+  unfolding onlyEof
+  only = ap (λ (b : Bool). b && noEof T m) (eq-eqb (kindAt T m) 0 kind-last) ∙ none-before m (omega arith)
+
+-- the last token of a lexing that reached the end is the only EOF
+lexed-only : (n : ℕ) (r : Result) (t : List ℕ) → r .outcome ≡ 0 → Ending n r → r .tokenCount ≤ room tokenWidth (over (r .tokens) t) → (onlyEof (over (r .tokens) t) (r .tokenCount) ≡ true) × (0 < r .tokenCount)
+lexed-only n r t z (whole ws m d o rows le eof is count) h =
+    let c : r .tokenCount ≡ suc m = count ∙ omega arith in
+    let f : m + 1 ≤ room tokenWidth (over (ws ++ tokenWords d) t) = subst (λ (x : List ℕ). m + 1 ≤ room tokenWidth (over x t)) is (subst (λ (k : ℕ). k ≤ room tokenWidth (over (r .tokens) t)) count h) in
+    ((λ i. onlyEof (over (is i) t) (c i)) ∙ only n m ws (drop (length (ws ++ tokenWords d)) t) d rows eof f, omega arith)
+lexed-only n r t z (short ne rows le) h = absurd (ne z)
+
+-- the parser that begin leaves where the end was reached
+fresh-fit : (s t e n : List ℕ) → let d = lexedOf s (room tokenWidth t) (room errorWidth e) in d .outcome ≡ 0 → Fit (over (d .tokens) t) (over (d .errors) e) n (fresh (d .tokenCount) (d .errorCount))
+fresh-fit s t e n z =
+    let d = lexedOf s (room tokenWidth t) (room errorWidth e) in
+    let k = lexed-whole s (room tokenWidth t) (room errorWidth e) z in
+    let a : room tokenWidth (over (d .tokens) t) ≡ room tokenWidth t = room-length tokenWidth (over (d .tokens) t) t (over-keeps (d .tokens) t (tokens-within s t (room errorWidth e))) in
+    let b : room errorWidth (over (d .errors) e) ≡ room errorWidth e = room-length errorWidth (over (d .errors) e) e (over-keeps (d .errors) e (errors-within s e (room tokenWidth t))) in
+    let f : d .tokenCount ≤ room tokenWidth (over (d .tokens) t) = subst (λ (m : ℕ). d .tokenCount ≤ m) (sym a) (k .token-room) in
+    let o = lexed-only (length s) d t z (k .ending) f in
+    record { tokens = f; errors = subst (λ (m : ℕ). d .errorCount ≤ m) (sym b) (k .error-room); nodes = omega arith; last = omega arith; loops = omega arith; cursor = o .1; eof = o .0 }
+
+one-not : _≡_ {A = ℕ} 1 0 → ⊥
+one-not h = omega (arith, h)
+
+begun-steady : (s t e n : List ℕ) → Steady (length s + 2) 0 (begun s t e n)
+unfolding begun
+begun-steady s t e n = at (eqb (d .outcome) 0) refl (eqb (d .outcome) 3 || eqb (d .outcome) 4)
+  where
+    d : Result
+    d = lexedOf s (room tokenWidth t) (room errorWidth e)
+
+    at : (x : Bool) → eqb (d .outcome) 0 ≡ x → (y : Bool) → Steady (length s + 2) 0
+        (pickCall x (λ _. restOf (over (d .tokens) t) (fresh (d .tokenCount) (d .errorCount)) (over (d .errors) e) n) λ _.
+        pickCall y (λ _. left (leaving (markedAs 1 (d .outcome) (fresh (d .tokenCount) (d .errorCount)))) (over (d .tokens) t) (over (d .errors) e) n) λ _.
+        final (d .outcome) (fresh (d .tokenCount) (d .errorCount)) (over (d .tokens) t) (over (d .errors) e) n)
+    at true h y = rest-steady (length s + 2) 0 (over (d .tokens) t) (fresh (d .tokenCount) (d .errorCount)) (over (d .errors) e) n (fresh-fit s t e n (eqb-true (d .outcome) 0 h)) (token-count s (room tokenWidth t) (room errorWidth e)) (omega arith)
+    at false h true = steady.over _ one-not
+    at false h false = steady.over _ one-not
+
+-- a call that stands so gave the final answer, or answers 19
+steady-answers : (b j : ℕ) (c : Called) → Steady b j c → (c .stepped .parser .ended ≡ 0 → ⊥) ⊎ (c .stepped .answer .outcome ≡ 19)
+steady-answers b j _ (steady.over c z) = inl z
+steady-answers b j _ (going p T E N z o f m l) = inr o
+
+-- after begin and k reads, each over what the last call left, the final answer was given, or the call answers 19
+pub never-refused : (s t e n : List ℕ) (k : ℕ) → (nexts k (begun s t e n) .stepped .parser .ended ≡ 0 → ⊥) ⊎ (nexts k (begun s t e n) .stepped .answer .outcome ≡ 19)
+never-refused s t e n k = steady-answers (length s + 2) k (nexts k (begun s t e n)) (reads-steady (length s + 2) k (begun s t e n) (begun-steady s t e n))
+
+-- a source of m bytes has its final answer after m + 2 reads
+pub final-comes : (s t e n : List ℕ) (k : ℕ) → length s + 2 ≤ k → nexts k (begun s t e n) .stepped .parser .ended ≡ 0 → ⊥
+final-comes s t e n k h = steady-ends (length s + 2) k (nexts k (begun s t e n)) h (reads-steady (length s + 2) k (begun s t e n) (begun-steady s t e n))

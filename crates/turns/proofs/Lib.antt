@@ -1,0 +1,4 @@
+pub mod Loops
+pub mod Steady
+pub mod Turns
+pub mod Begun

@@ -1,0 +1,148 @@
+-- Calls one after the other: where a final answer is given, it and the tables are what the whole reading yields, and every read after it gives the same.
+-- Assumes nothing.
+use mathlib.Core.Path.{_≡_, refl, sym, ap, subst, _∙_}
+use mathlib.Core.Bool.{Bool, true, false, _||_}
+use mathlib.Core.List.{List}
+use Prim.Native.Nat.{ℕ, zero, suc, _-_, _≤_, _<_}
+use native.Mathlib.Omega.{arith}
+use lib.Dec.{eqb}
+use Rattle.records.specs.Table.{room, linked, zeroed, tokenWidth, errorWidth, nodeWidth}
+use Rattle.lexer.specs.Lex.{Result, lexedOf}
+use Rattle.parser.specs.declared.Got.the-variants.{Node, Stop}
+use Rattle.parser.specs.Tokens.{count, kindAt}
+use Rattle.parser.specs.Tables.{Reply, reply}
+use Rattle.parser.specs.Grammar.{firstOf}
+use Rattle.parser.specs.Whole.{Parsed, ends, topLevel, statements, parsed}
+use Rattle.statements.proofs.TopLevel.{at-end, stops, goes-on, statement-past}
+use Rattle.reader.specs.declared.Answer.{Answer}
+use Rattle.whole.proofs.Outcome.{reading-outcome}
+use Rattle.reader.specs.Reading.{Reading, over, refused, joined, pickReading, reading, Answers}
+use Rattle.pair.specs.declared.Parser.{Parser}
+use Rattle.pair.specs.Pair.{Called, left, held, leaving, markedAs, final, pickCall, restOf, fresh, begun, fitsIn, refusedAs, stateOf, behind, stoppedAt, afterOne, oneOf, nextOf, next, nexts}
+use Rattle.pair.proofs.Cases.{next-again, next-refuses, next-goes-on}
+
+-- how a call stands to the whole reading R: it gave the final answer, and all is as R has it; or the statements that are left make R, with fuel for a turn
+-- for each token that is left
+data Stands (R : Reading) : Called → Type 0 where
+  done : (p : Parser) (T E N : List ℕ) → (p .ended ≡ 0 → ⊥) → Answers R (held p) T E N → Stands R (left (leaving p) T E N)
+  on : (r : Answer) (p : Parser) (T E N : List ℕ) (f : ℕ) → p .ended ≡ 0 → count T - p .current ≤ f → R ≡ joined (p .tokens) T (statements (suc f) T (p .first) (p .last) (stateOf p) E N)
+      → Stands R (left (record { parser = p; answer = r }) T E N)
+
+-- the mark of a final answer
+one-not : _≡_ {A = ℕ} 1 0 → ⊥
+one-not h = omega (arith, h)
+
+-- the parsing ends, and this is what the parser holds
+ended-as : (R : Reading) (o : ℕ) (p : Parser) (T E N : List ℕ) → R ≡ joined (p .tokens) T (ends o (p .first) (p .nodes) (p .errors) E N) → Stands R (final o p T E N)
+ended-as R o p T E N e =
+    done (markedAs 1 o p) T E (zeroed nodeWidth N (p .nodes)) one-not
+    (record {
+      outcome-is = ap (λ (x : Reading). x .outcome) (sym e);
+      tokens-are = ap (λ (x : Reading). x .tokenCount) (sym e);
+      errors-are = ap (λ (x : Reading). x .errorCount) (sym e);
+      nodes-are = ap (λ (x : Reading). x .nodeCount) (sym e);
+      first-is = ap (λ (x : Reading). x .first) (sym e);
+      token-table = ap (λ (x : Reading). x .tokens) (sym e);
+      error-table = ap (λ (x : Reading). x .errors) (sym e);
+      node-table = ap (λ (x : Reading). x .nodes) (sym e);
+    })
+
+module _ (R : Reading) (T : List ℕ) (p : Parser) (E N : List ℕ) (f : ℕ) (enough : count T - p .current ≤ f) (e : R ≡ joined (p .tokens) T (statements (suc f) T (p .first) (p .last) (stateOf p) E N)) where
+  -- at EOF the whole is at its end
+  at-its-end : eqb (kindAt T (p .current)) 0 ≡ true → Stands R (final 0 p T E N)
+  at-its-end h = ended-as R 0 p T E N (e ∙ ap (λ (x : Parsed). joined (p .tokens) T x) (at-end T f (p .first) (p .last) (stateOf p) E N h))
+
+  -- behind a statement, or before the first
+  rest-by : (b : Bool) → eqb (kindAt T (p .current)) 0 ≡ b → Stands R (restOf T p E N)
+  unfolding restOf
+  rest-by true h = subst (λ (b : Bool). Stands R (pickCall b (λ _. final 0 p T E N) λ _. left (leaving (markedAs 0 19 p)) T E N)) (sym h) (at-its-end h)
+  rest-by false h = subst (λ (b : Bool). Stands R (pickCall b (λ _. final 0 p T E N) λ _. left (leaving (markedAs 0 19 p)) T E N)) (sym h) (on _ (markedAs 0 19 p) T E N f refl enough e)
+
+  rests : Stands R (restOf T p E N)
+  rests = rest-by (eqb (kindAt T (p .current)) 0) refl
+
+-- with fuel that is one more than some
+less : (f : ℕ) → 0 < f → f ≡ suc (f - 1)
+less f h = omega (arith, h)
+
+module _ (R : Reading) (T : List ℕ) (p : Parser) (E N : List ℕ) (f : ℕ) (enough : count T - p .current ≤ f) (e : R ≡ joined (p .tokens) T (statements (suc f) T (p .first) (p .last) (stateOf p) E N)) where
+  -- what came of a statement
+  came : eqb (kindAt T (p .current)) 0 ≡ false → (r : Reply) → r ≡ topLevel T (stateOf p) E N → Stands R (afterOne T p r)
+  came h (reply q (Stop o) E′ N′) t =
+      ended-as R o (stoppedAt p (q .errors)) T E′ N′ (e ∙ ap (λ (x : Parsed). joined (p .tokens) T x) (stops T f (p .first) (p .last) (stateOf p) E N q (Stop o) E′ N′ h t o refl))
+  came h (reply q (Node n) E′ N′) t =
+      let g = statement-past T f (p .first) (p .last) (stateOf p) E N q (Node n) E′ N′ h t n refl in
+      let below : p .current < count T = g .0 in
+      let moved : p .current < q .current = g .1 in
+      let z : f ≡ suc (f - 1) = less f (omega (arith, below, enough)) in
+      rests R T (behind p q (n .node)) E′ (linked N′ (p .last) (n .node)) (f - 1) (omega (arith, below, moved, enough))
+      (e ∙ ap (λ (x : Parsed). joined (p .tokens) T x) (goes-on T f (p .first) (p .last) (stateOf p) E N q (Node n) E′ N′ h t n refl)
+      ∙ ap (λ (i : ℕ). joined (p .tokens) T (statements i T (firstOf (p .first) (n .node)) (n .node) q E′ (linked N′ (p .last) (n .node)))) z)
+
+  -- a statement, or the end
+  one-by : (b : Bool) → eqb (kindAt T (p .current)) 0 ≡ b → Stands R (oneOf T p E N)
+  unfolding oneOf
+  one-by true h = subst (λ (b : Bool). Stands R (pickCall b (λ _. final 0 p T E N) λ _. afterOne T p (topLevel T (stateOf p) E N))) (sym h) (at-its-end R T p E N f enough e h)
+  one-by false h = subst (λ (b : Bool). Stands R (pickCall b (λ _. final 0 p T E N) λ _. afterOne T p (topLevel T (stateOf p) E N))) (sym h) (came h (topLevel T (stateOf p) E N) refl)
+
+  -- the test
+  next-by : p .ended ≡ 0 → (b : Bool) → fitsIn T E N p ≡ b → Stands R (nextOf T E N p)
+  next-by z true h = subst (Stands R) (next-goes-on T E N p z (fitsIn T E N p) refl h) (one-by (eqb (kindAt T (p .current)) 0) refl)
+  next-by z false h = subst (Stands R) (next-refuses T E N p z (fitsIn T E N p) refl h) (on _ p T E N f z enough e)
+
+-- a read keeps it so
+next-stands : (R : Reading) (c : Called) → Stands R c → Stands R (next c)
+next-stands R _ (done p T E N z a) = subst (Stands R) (next-again T E N p z) (done p T E N z a)
+next-stands R _ (on r p T E N f z enough e) = next-by R T p E N f enough e z (fitsIn T E N p) refl
+
+-- after lexing, by its two tests
+begin-stands : (d : Result) (T E N : List ℕ) (x y : Bool) → Stands
+    (pickReading x (λ _. joined (d .tokenCount) T (parsed T (d .errorCount) E N)) λ _. pickReading y (λ _. refused d T E N) λ _. refused d T E (zeroed nodeWidth N 0))
+    (pickCall x (λ _. restOf T (fresh (d .tokenCount) (d .errorCount)) E N) λ _.
+    pickCall y (λ _. left (leaving (markedAs 1 (d .outcome) (fresh (d .tokenCount) (d .errorCount)))) T E N) λ _.
+    final (d .outcome) (fresh (d .tokenCount) (d .errorCount)) T E N)
+unfolding parsed
+begin-stands d T E N true y = rests _ T (fresh (d .tokenCount) (d .errorCount)) E N (count T) (omega arith) refl
+begin-stands d T E N false true =
+    done (markedAs 1 (d .outcome) (fresh (d .tokenCount) (d .errorCount))) T E N one-not
+    (record { outcome-is = refl; tokens-are = refl; errors-are = refl; nodes-are = refl; first-is = refl; token-table = refl; error-table = refl; node-table = refl })
+begin-stands d T E N false false =
+    done (markedAs 1 (d .outcome) (fresh (d .tokenCount) (d .errorCount))) T E (zeroed nodeWidth N 0) one-not
+    (record { outcome-is = refl; tokens-are = refl; errors-are = refl; nodes-are = refl; first-is = refl; token-table = refl; error-table = refl; node-table = refl })
+
+begun-stands : (s t e n : List ℕ) → Stands (reading s t e n) (begun s t e n)
+unfolding begun reading
+begun-stands s t e n =
+    let d = lexedOf s (room tokenWidth t) (room errorWidth e) in
+    begin-stands d (over (d .tokens) t) (over (d .errors) e) n (eqb (d .outcome) 0) (eqb (d .outcome) 3 || eqb (d .outcome) 4)
+
+reads-stand : (R : Reading) (k : ℕ) (c : Called) → Stands R c → Stands R (nexts k c)
+unfolding nexts
+reads-stand R zero c a = a
+reads-stand R (suc k) c a = next-stands R (nexts k c) (reads-stand R k c a)
+
+-- what stands so and is final
+final-answers : (R : Reading) (c : Called) → Stands R c → (c .stepped .parser .ended ≡ 0 → ⊥) → Answers R (c .stepped .answer) (c .tokens) (c .errors) (c .nodes)
+final-answers R _ (done p T E N z a) h = a
+final-answers R _ (on r p T E N f z enough e) h = elim (h z) [ ]
+
+final-again : (R : Reading) (c : Called) → Stands R c → (c .stepped .parser .ended ≡ 0 → ⊥) → next c ≡ c
+final-again R _ (done p T E N z a) h = sym (next-again T E N p z)
+final-again R _ (on r p T E N f z enough e) h = elim (h z) [ ]
+
+module _ (s t e n : List ℕ) (k : ℕ) where
+  -- begin and k reads, each over what the last call left
+  abbrev called : Called
+  called = nexts k (begun s t e n)
+
+  -- where they give the final answer, it and the tables are what the whole reading yields
+  pub yields-whole : (called .stepped .parser .ended ≡ 0 → ⊥) → Answers (reading s t e n) (called .stepped .answer) (called .tokens) (called .errors) (called .nodes)
+  yields-whole = final-answers (reading s t e n) called (reads-stand (reading s t e n) k (begun s t e n) (begun-stands s t e n))
+
+  -- a read after that returns the same and changes nothing
+  pub yields-again : (called .stepped .parser .ended ≡ 0 → ⊥) → next called ≡ called
+  yields-again = final-again (reading s t e n) called (reads-stand (reading s t e n) k (begun s t e n) (begun-stands s t e n))
+
+  -- and the final answer is one of 0 to 8
+  pub final-number : (called .stepped .parser .ended ≡ 0 → ⊥) → called .stepped .answer .outcome ≤ 8
+  final-number z = let a = yields-whole z .outcome-is in let b = reading-outcome s t e n in omega (arith, a, b)

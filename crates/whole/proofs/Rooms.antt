@@ -1,0 +1,64 @@
+-- The counts of a reading keep to the tables' rooms. Assumes nothing.
+use mathlib.Core.Path.{_≡_, refl, sym, ap, subst, _∙_}
+use mathlib.Core.Bool.{Bool, true, false, not}
+use mathlib.Core.List.{List}
+use Prim.Native.Nat.{ℕ, _≤_}
+use native.Mathlib.Omega.{arith}
+use lib.Dec.{ltb, eqb}
+use lib.ListN.{length}
+use Rattle.text.specs.Text.{isText}
+use Rattle.records.specs.Table.{room, zeroed, tokenWidth, errorWidth, nodeWidth}
+use Rattle.records.proofs.Room.{room-length}
+use Rattle.lexer.specs.Lex.{Result, refusal, pickResult, lexed, lexedOf}
+use Rattle.lexer.proofs.Kept.{lexed-keeps}
+use Rattle.lexer.proofs.Answer.{errors-within}
+use Rattle.parser.specs.Whole.{parsed}
+use Rattle.parsing.proofs.Frame.{parsed-errors-kept, parsed-nodes-within}
+use Rattle.reader.specs.Reading.{over, refused, joined, pickReading, readAfter, reading, unread}
+use Rattle.whole.specs.Sizes.{Within}
+use Rattle.whole.proofs.Sizes.{over-keeps}
+
+-- of a lexing
+lexed-rooms : (s : List ℕ) (a b : ℕ) → (lexedOf s a b .tokenCount ≤ a) × (lexedOf s a b .errorCount ≤ b)
+unfolding lexedOf
+lexed-rooms s a b = at (ltb 65535 (length s)) (isText s)
+  where
+    at : (x y : Bool) → let r = pickResult x (refusal 4) (pickResult (not y) (refusal 3) (lexed s a b)) in (r .tokenCount ≤ a) × (r .errorCount ≤ b)
+    at true y = (omega arith, omega arith)
+    at false false = (omega arith, omega arith)
+    at false true = let k = lexed-keeps s a b in (k .token-room, k .error-room)
+
+module _ (d : Result) (t e n : List ℕ) (ht : d .tokenCount ≤ room tokenWidth t) (he : d .errorCount ≤ room errorWidth e) (el : length (over (d .errors) e) ≡ length e) where
+  abbrev T : List ℕ
+  T = over (d .tokens) t
+
+  abbrev E : List ℕ
+  E = over (d .errors) e
+
+  after-rooms : Within t e n (readAfter d T E n)
+  after-rooms = at (eqb (d .outcome) 0) (unread (d .outcome))
+    where
+      at : (x y : Bool)
+          → Within t e n (pickReading x (λ _. joined (d .tokenCount) T (parsed T (d .errorCount) E n)) λ _. pickReading y (λ _. refused d T E n) λ _. refused d T E (zeroed nodeWidth n 0))
+      at true y =
+          let k = parsed-errors-kept T (d .errorCount) E n in
+          let r = parsed T (d .errorCount) E n in
+          let p : room errorWidth E ≡ room errorWidth e = room-length errorWidth E e el in
+          let q : room errorWidth (r .errors) ≡ room errorWidth e = room-length errorWidth (r .errors) e (k .long ∙ el) in
+          record {
+            tokens-fit = ht;
+            errors-fit = subst (λ (m : ℕ). r .errorCount ≤ m) q (k .within (subst (λ (m : ℕ). d .errorCount ≤ m) (sym p) he));
+            nodes-fit = parsed-nodes-within T (d .errorCount) E n;
+          }
+      at false true = record { tokens-fit = ht; errors-fit = he; nodes-fit = omega arith }
+      at false false = record { tokens-fit = ht; errors-fit = he; nodes-fit = omega arith }
+
+-- the counts of a reading keep to the rooms
+pub reading-rooms : (s t e n : List ℕ) → Within t e n (reading s t e n)
+unfolding reading
+reading-rooms s t e n =
+    let a = room tokenWidth t in
+    let b = room errorWidth e in
+    let d = lexedOf s a b in
+    let r = lexed-rooms s a b in
+    after-rooms d t e n (r .0) (r .1) (over-keeps (d .errors) e (errors-within s e a))

@@ -1,0 +1,274 @@
+-- The whole reading depends on the sizes of the tables and not on what they hold; what it does not keep it leaves as it was. Assumes nothing.
+use mathlib.Core.Path.{_≡_, refl, sym, ap, subst, _∙_}
+use mathlib.Core.Bool.{Bool, true, false, not, _&&_, _||_}
+use mathlib.Core.List.{List, [], _∷_, _++_}
+use mathlib.Core.Logic.{⊎-elim}
+use Prim.Native.Nat.{ℕ, _+_, _-_, _*_, _≤_, _<_}
+use native.Mathlib.Omega.{arith}
+use borrow.Author.Tests.{eqb-true, le-ltb}
+use lib.Dec.{ltb, eqb}
+use lib.ListN.{length, getD, take, drop, replicate, length-append, length-drop, List·getD-append}
+use lib.Seq.{take-append-seam, drop-append-add, drop-drop, getD-append-add}
+use Rattle.text.specs.Text.{isText}
+use Rattle.records.specs.Table.{room, field, zeroed, tokenWidth, errorWidth, nodeWidth}
+use Rattle.records.specs.Words.{tokenWords, errorWords}
+use Rattle.records.proofs.Room.{room-length, lt-or-le}
+use Rattle.records.proofs.Field.{field-room, field-none, field-same}
+use Rattle.records.proofs.Rest.{zeroed-length}
+use Rattle.records.proofs.Rows.{rows-length}
+use Rattle.lexer.specs.declared.Item.{Item}
+use Rattle.lexer.specs.declared.Item.the-variants.{Space, Comment, Name, Text, Number, Mark, Wrong}
+use Rattle.lexer.specs.Items.{items}
+use Rattle.lexer.specs.Lex.{State, Result, Onward, go, stop, pickOnward, kept, andThen, token, step, closing, emit, fresh, noValue, refusal, pickResult, lexed, lexedOf}
+use Rattle.lexer.specs.Kept.{Good, Placed, Ending, whole, short}
+use Rattle.lexer.proofs.Kept.{lexed-keeps}
+use Rattle.lexer.proofs.Answer.{tokens-within, errors-within}
+use Rattle.parser.specs.Tokens.{kindAt, lineAt}
+use Rattle.parser.specs.Whole.{Parsed, parsed}
+use Rattle.parsing.specs.Ahead.{Agree, isOutcome}
+use Rattle.parsing.proofs.Sizes.{SameParsed, parsed-sizes}
+use Rattle.parsing.proofs.Frame.{parsed-errors-kept, parsed-nodes-long}
+use Rattle.parsing.proofs.Ahead.{parsed-tokens, parsed-outcome}
+use Rattle.reader.specs.Reading.{over, refused, joined, pickReading, readAfter, reading, unread}
+use Rattle.whole.specs.Sizes.{SameReading, Rest}
+
+true-false : {A : Type 0} → true ≡ false → A
+true-false e = let z : _≡_ {A = ℕ} 0 1 = cc in absurd (omega arith)
+
+-- ---- a lexing of text that is not too long does not end with 3 or 4
+-- where it stops, it is with another outcome
+abbrev Reads : Onward → Type 0
+Reads (go u) = Unit {0}
+Reads (stop o) = unread o ≡ false
+
+pick-read : (b : Bool) (x y : Onward) → Reads x → Reads y → Reads (pickOnward b x y)
+pick-read true x y g h = g
+pick-read false x y g h = h
+
+then-read : (x : Onward) (t : State) (k : State → Result) → Reads x → ((u : State) → unread (k u .outcome) ≡ false) → unread (andThen x t k .outcome) ≡ false
+then-read (go u) t k g h = h u
+then-read (stop o) t k g h = g
+
+module _ (a b : ℕ) where
+  step-read : (x : Item) (t : State) → Reads (step a b x t)
+  step-read Space t = tt
+  step-read (Comment n) t = tt
+  step-read (Name k n) t = pick-read (ltb (t .tokenCount) a) _ _ tt refl
+  step-read (Text n m l) t = pick-read (ltb (t .tokenCount) a) _ _ tt refl
+  step-read (Number x) t = pick-read (x .cut) _ _ refl (pick-read (ltb (t .tokenCount) a) _ _ tt refl)
+  step-read (Mark k n m) t = pick-read (ltb (t .tokenCount) a) _ _ tt refl
+  step-read (Wrong e n m) t = pick-read (ltb (t .errorCount) b) _ _ tt refl
+
+  emit-read : (xs : List Item) (t : State) → unread (emit a b xs t .outcome) ≡ false
+  emit-read [] t =
+      then-read (closing a b t) t (λ u. andThen (token a b 0 0 0 noValue u) u (kept 0))
+      (pick-read (ltb 0 (t .tokenCount) && not (eqb (t .last) 1)) _ _ (pick-read (ltb (t .tokenCount) a) _ _ tt refl) tt) λ u.
+      then-read (token a b 0 0 0 noValue u) u (kept 0) (pick-read (ltb (u .tokenCount) a) _ _ tt refl) λ v. refl
+  emit-read (x ∷ xs) t = then-read (step a b x t) t (emit a b xs) (step-read x t) (emit-read xs)
+
+-- ---- what is lexed
+-- whole records; where the end is reached the last token is EOF; and after 3 and 4 none
+record Well (r : Result) : Type 0 where
+  tokens-long : length (r .tokens) ≡ tokenWidth * r .tokenCount
+  errors-long : length (r .errors) ≡ errorWidth * r .errorCount
+  eof : r .outcome ≡ 0 → (m : ℕ) × (r .tokenCount ≡ m + 1) × (getD (r .tokens) (tokenWidth * m + 0) 0 ≡ 0)
+  nothing : unread (r .outcome) ≡ true → (r .tokens ≡ []) × (r .errors ≡ [])
+
+well-lexed : (n : ℕ) (r : Result) → unread (r .outcome) ≡ false → length (r .errors) ≡ errorWidth * r .errorCount → Ending n r → Well r
+well-lexed n r u e (whole ws m d o rows le eof is count) =
+    let a : length ws ≡ tokenWidth * m = rows-length tokenWords (Good n) tokenWidth (λ d. refl) ws m rows in
+    record {
+      tokens-long = ap length is ∙ length-append ws (tokenWords d) ∙ omega arith;
+      errors-long = e;
+      eof = λ z. (m, count, ap (λ (l : List ℕ). getD l (tokenWidth * m + 0) 0) is ∙ ap (λ (k : ℕ). getD (ws ++ tokenWords d) (k + 0) 0) (sym a) ∙ getD-append-add ws (tokenWords d) 0 0 ∙ eof .kind-is);
+      nothing = λ z. true-false (sym z ∙ u);
+    }
+well-lexed n r u e (short ne rows le) =
+    record {
+      tokens-long = rows-length tokenWords (Good n) tokenWidth (λ d. refl) (r .tokens) (r .tokenCount) rows;
+      errors-long = e;
+      eof = λ z. absurd (ne z);
+      nothing = λ z. true-false (sym z ∙ u);
+    }
+
+well-refusal : (o : ℕ) → (o ≡ 0 → ⊥) → Well (refusal o)
+well-refusal o h = record { tokens-long = refl; errors-long = refl; eof = λ z. absurd (h z); nothing = λ z. (refl, refl) }
+
+well : (s : List ℕ) (a b : ℕ) → Well (lexedOf s a b)
+unfolding lexedOf lexed
+well s a b = at (ltb 65535 (length s)) (isText s)
+  where
+    at : (x y : Bool) → Well (pickResult x (refusal 4) (pickResult (not y) (refusal 3) (lexed s a b)))
+    at true y = well-refusal 4 λ z. omega arith
+    at false false = well-refusal 3 λ z. omega arith
+    at false true =
+        let k = lexed-keeps s a b in
+        let r = lexed s a b in
+        well-lexed (length s) r (emit-read a b (items s 0) fresh) (rows-length errorWords (Placed (length s)) errorWidth (λ d. refl) (r .errors) (r .errorCount) (k .errors)) (k .ending)
+
+-- ---- a table whose front is rewritten
+over-long : (ws t t′ : List ℕ) → length t ≡ length t′ → length (over ws t) ≡ length (over ws t′)
+over-long ws t t′ l = simp (length-append, length-drop, l)
+
+pub over-keeps : (ws t : List ℕ) → length ws ≤ length t → length (over ws t) ≡ length t
+over-keeps ws t h = let a = length-append ws (drop (length ws) t) in let b = length-drop (length ws) t in omega arith
+
+over-take : (w : ℕ) (ws t : List ℕ) → length ws ≡ w → take w (over ws t) ≡ ws
+over-take w ws t e = rw (← e) (take-append-seam ws (drop (length ws) t))
+
+over-drop : (w : ℕ) (ws t : List ℕ) → length ws ≤ w → drop w (over ws t) ≡ drop w t
+over-drop w ws t h =
+    let m = w - length ws in
+    let e : w ≡ length ws + m = omega arith in
+    ap (λ (k : ℕ). drop k (over ws t)) e ∙ drop-append-add ws (drop (length ws) t) m ∙ drop-drop m (length ws) t ∙ ap (λ (k : ℕ). drop k t) (sym e)
+
+-- record i of the front is the same in both
+over-field : (k : ℕ) (ws t t′ : List ℕ) (n i : ℕ) → length t ≡ length t′ → length ws ≡ tokenWidth * n → i < n → k < tokenWidth → field tokenWidth k (over ws t) i ≡ field tokenWidth k (over ws t′) i
+over-field k ws t t′ n i l e h b =
+    field-same tokenWidth k (over ws t) (over ws t′) i (over-long ws t t′ l)
+    (List·getD-append ws (drop (length ws) t) 0 (tokenWidth * i + k) (omega arith) ∙ sym (List·getD-append ws (drop (length ws) t′) 0 (tokenWidth * i + k) (omega arith)))
+
+-- the words of the token tables behind EOF don't count
+over-agree : (ws t t′ : List ℕ) (m : ℕ) → length t ≡ length t′ → length ws ≡ tokenWidth * (m + 1) → getD ws (tokenWidth * m + 0) 0 ≡ 0 → Agree m (over ws t) (over ws t′)
+unfolding kindAt lineAt
+over-agree ws t t′ m l e z =
+    record {
+      counts = room-length tokenWidth (over ws t) (over ws t′) (over-long ws t t′ l);
+      end = ⊎-elim (λ h. field-room tokenWidth 0 (over ws t) m h ∙ List·getD-append ws (drop (length ws) t) 0 (tokenWidth * m + 0) (omega arith) ∙ z) (λ h. field-none tokenWidth 0 (over ws t) m h) (lt-or-le m (room tokenWidth (over ws t)));
+      kinds = λ i h. over-field 0 ws t t′ (m + 1) i l e (omega arith) (omega arith);
+      lines = λ i h. over-field 3 ws t t′ (m + 1) i l e (omega arith) (omega arith);
+    }
+
+-- ---- the theorems
+zeroed-sizes : (n n′ : List ℕ) → length n ≡ length n′ → zeroed nodeWidth n 0 ≡ zeroed nodeWidth n′ 0
+unfolding zeroed
+zeroed-sizes n n′ l = ap (λ (m : ℕ). replicate (m - 0) 0) l
+
+module _ (d : Result) (w : Well d) (t e n t′ e′ n′ : List ℕ) (tl : length t ≡ length t′) (el : length e ≡ length e′) (nl : length n ≡ length n′) where
+  joined-sizes : d .outcome ≡ 0 → SameParsed (parsed (over (d .tokens) t) (d .errorCount) (over (d .errors) e) n) (parsed (over (d .tokens) t′) (d .errorCount) (over (d .errors) e′) n′)
+  joined-sizes z =
+      let c = d .errorCount in
+      let T = over (d .tokens) t in
+      let T′ = over (d .tokens) t′ in
+      let E = over (d .errors) e in
+      let E′ = over (d .errors) e′ in
+      let x = w .eof z in
+      let a : Agree (x .0) T T′ = over-agree (d .tokens) t t′ (x .0) tl (w .tokens-long ∙ ap (λ (k : ℕ). tokenWidth * k) (x .1)) (x .2) in
+      subst (λ (r : Parsed). SameParsed (parsed T c E n) r) (parsed-tokens T T′ (x .0) a c E′ n′)
+      (parsed-sizes T c E n E′ n′ (over-long (d .errors) e e′ el) nl (over-take (errorWidth * c) (d .errors) e (w .errors-long) ∙ sym (over-take (errorWidth * c) (d .errors) e′ (w .errors-long))))
+
+  tokens-same : take (tokenWidth * d .tokenCount) (over (d .tokens) t) ≡ take (tokenWidth * d .tokenCount) (over (d .tokens) t′)
+  tokens-same = over-take (tokenWidth * d .tokenCount) (d .tokens) t (w .tokens-long) ∙ sym (over-take (tokenWidth * d .tokenCount) (d .tokens) t′ (w .tokens-long))
+
+  errors-same : take (errorWidth * d .errorCount) (over (d .errors) e) ≡ take (errorWidth * d .errorCount) (over (d .errors) e′)
+  errors-same = over-take (errorWidth * d .errorCount) (d .errors) e (w .errors-long) ∙ sym (over-take (errorWidth * d .errorCount) (d .errors) e′ (w .errors-long))
+
+  after-sizes : SameReading (readAfter d (over (d .tokens) t) (over (d .errors) e) n) (readAfter d (over (d .tokens) t′) (over (d .errors) e′) n′)
+  after-sizes = at (eqb (d .outcome) 0) refl (unread (d .outcome)) refl
+    where
+      at : (x : Bool) → eqb (d .outcome) 0 ≡ x → (y : Bool) → unread (d .outcome) ≡ y
+          → SameReading
+          (pickReading x (λ _. joined (d .tokenCount) (over (d .tokens) t) (parsed (over (d .tokens) t) (d .errorCount) (over (d .errors) e) n)) λ _. pickReading y (λ _. refused d (over (d .tokens) t) (over (d .errors) e) n) λ _. refused d (over (d .tokens) t) (over (d .errors) e) (zeroed nodeWidth n 0))
+          (pickReading x (λ _. joined (d .tokenCount) (over (d .tokens) t′) (parsed (over (d .tokens) t′) (d .errorCount) (over (d .errors) e′) n′)) λ _. pickReading y (λ _. refused d (over (d .tokens) t′) (over (d .errors) e′) n′) λ _. refused d (over (d .tokens) t′) (over (d .errors) e′) (zeroed nodeWidth n′ 0))
+      at true p y q =
+          let h = joined-sizes (eqb-true (d .outcome) 0 p) in
+          record { outcome = h .outcome; tokenCount = refl; errorCount = h .errorCount; nodeCount = h .nodeCount; first = h .first; tokens-kept = tokens-same; errors-kept = h .errors-same; nodes = λ u. h .nodes }
+      at false p true q = record { outcome = refl; tokenCount = refl; errorCount = refl; nodeCount = refl; first = refl; tokens-kept = tokens-same; errors-kept = errors-same; nodes = λ u. true-false (sym q ∙ u) }
+      at false p false q = record { outcome = refl; tokenCount = refl; errorCount = refl; nodeCount = refl; first = refl; tokens-kept = tokens-same; errors-kept = errors-same; nodes = λ u. zeroed-sizes n n′ nl }
+
+-- two readings of one source into tables of the same sizes give the same answer and keep the same words
+pub reading-sizes : (s t e n t′ e′ n′ : List ℕ) → length t ≡ length t′ → length e ≡ length e′ → length n ≡ length n′ → SameReading (reading s t e n) (reading s t′ e′ n′)
+unfolding reading
+reading-sizes s t e n t′ e′ n′ tl el nl =
+    let d = lexedOf s (room tokenWidth t) (room errorWidth e) in
+    let b : d ≡ lexedOf s (room tokenWidth t′) (room errorWidth e′) = ap (λ (k : ℕ). lexedOf s k (room errorWidth e)) (room-length tokenWidth t t′ tl) ∙ ap (lexedOf s (room tokenWidth t′)) (room-length errorWidth e e′ el) in
+    subst (λ (c : Result). SameReading (readAfter d (over (d .tokens) t) (over (d .errors) e) n) (readAfter c (over (c .tokens) t′) (over (c .errors) e′) n′)) b
+    (after-sizes d (well s (room tokenWidth t) (room errorWidth e)) t e n t′ e′ n′ tl el nl)
+
+-- parsing does not end with 3 or 4
+outcome-read : {A : Type 0} (o : ℕ) → isOutcome o ≡ true → unread o ≡ true → A
+outcome-read o h = at (eqb o 3) refl (eqb o 4) refl
+  where
+    at : {A : Type 0} (x : Bool) → eqb o 3 ≡ x → (y : Bool) → eqb o 4 ≡ y → x || y ≡ true → A
+    at true p y q u = true-false (sym (subst (λ (k : ℕ). isOutcome k ≡ true) (eqb-true o 3 p) h))
+    at false p true q u = true-false (sym (subst (λ (k : ℕ). isOutcome k ≡ true) (eqb-true o 4 q) h))
+    at false p false q u = true-false (sym u)
+
+module _ (d : Result) (w : Well d) (t e n : List ℕ) (tf : length (d .tokens) ≤ length t) (ef : length (d .errors) ≤ length e) where
+  abbrev T : List ℕ
+  T = over (d .tokens) t
+
+  abbrev E : List ℕ
+  E = over (d .errors) e
+
+  tokens-rest : drop (tokenWidth * d .tokenCount) T ≡ drop (tokenWidth * d .tokenCount) t
+  tokens-rest = over-drop (tokenWidth * d .tokenCount) (d .tokens) t (let a = w .tokens-long in omega arith)
+
+  errors-rest : (c : ℕ) → d .errorCount ≤ c → drop (errorWidth * c) E ≡ drop (errorWidth * c) e
+  errors-rest c h = over-drop (errorWidth * c) (d .errors) e (let a = w .errors-long in omega arith)
+
+  after-rest : Rest t e n (readAfter d T E n)
+  after-rest = at (eqb (d .outcome) 0) (unread (d .outcome)) refl
+    where
+      at : (x y : Bool) → unread (d .outcome) ≡ y
+          → Rest t e n (pickReading x (λ _. joined (d .tokenCount) T (parsed T (d .errorCount) E n)) λ _. pickReading y (λ _. refused d T E n) λ _. refused d T E (zeroed nodeWidth n 0))
+      at true y q =
+          let k = parsed-errors-kept T (d .errorCount) E n in
+          let r = parsed T (d .errorCount) E n in
+          record {
+            tokens-long = over-keeps (d .tokens) t tf;
+            errors-long = k .long ∙ over-keeps (d .errors) e ef;
+            nodes-long = parsed-nodes-long T (d .errorCount) E n;
+            tokens-rest = tokens-rest;
+            errors-rest = k .rest ∙ errors-rest (r .errorCount) (k .more);
+            unchanged = outcome-read (r .outcome) (parsed-outcome T (d .errorCount) E n);
+          }
+      at false true q =
+          let z = w .nothing q in
+          record {
+            tokens-long = over-keeps (d .tokens) t tf;
+            errors-long = over-keeps (d .errors) e ef;
+            nodes-long = refl;
+            tokens-rest = tokens-rest;
+            errors-rest = errors-rest (d .errorCount) (omega arith);
+            unchanged = λ u. (ap (λ (ws : List ℕ). over ws t) (z .0), ap (λ (ws : List ℕ). over ws e) (z .1), refl);
+          }
+      at false false q =
+          record {
+            tokens-long = over-keeps (d .tokens) t tf;
+            errors-long = over-keeps (d .errors) e ef;
+            nodes-long = zeroed-length nodeWidth n 0;
+            tokens-rest = tokens-rest;
+            errors-rest = errors-rest (d .errorCount) (omega arith);
+            unchanged = λ u. true-false (sym u ∙ q);
+          }
+
+-- a reading leaves the tables' lengths, the words behind the kept tokens and errors, and after 3 and 4 every word
+pub reading-rest : (s t e n : List ℕ) → Rest t e n (reading s t e n)
+unfolding reading
+reading-rest s t e n =
+    let a = room tokenWidth t in
+    let b = room errorWidth e in
+    after-rest (lexedOf s a b) (well s a b) t e n (tokens-within s t b) (errors-within s e a)
+
+-- a source that is text and not too long is read: the reading does not end with 3 or 4
+pub reading-read : (s t e n : List ℕ) → length s ≤ 65535 → isText s ≡ true → unread (reading s t e n .outcome) ≡ false
+unfolding reading lexedOf lexed
+reading-read s t e n l x =
+    let a = room tokenWidth t in
+    let b = room errorWidth e in
+    let d = lexedOf s a b in
+    let i : d ≡ lexed s a b = simp (le-ltb 65535 (length s) l, x) in
+    after d (over (d .tokens) t) (over (d .errors) e) (ap (λ (r : Result). unread (r .outcome)) i ∙ emit-read a b (items s 0) fresh)
+  where
+    after : (d : Result) (T E : List ℕ) → unread (d .outcome) ≡ false → unread (readAfter d T E n .outcome) ≡ false
+    after d T E u = at (eqb (d .outcome) 0) (unread (d .outcome))
+      where
+        parse : (o : ℕ) → isOutcome o ≡ true → (y : Bool) → unread o ≡ y → unread o ≡ false
+        parse o h true q = outcome-read o h q
+        parse o h false q = q
+
+        at : (x y : Bool) → unread (pickReading x (λ _. joined (d .tokenCount) T (parsed T (d .errorCount) E n)) (λ _. pickReading y (λ _. refused d T E n) λ _. refused d T E (zeroed nodeWidth n 0)) .outcome) ≡ false
+        at true y = parse (parsed T (d .errorCount) E n .outcome) (parsed-outcome T (d .errorCount) E n) (unread (parsed T (d .errorCount) E n .outcome)) refl
+        at false true = u
+        at false false = u
