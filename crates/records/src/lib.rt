@@ -42,6 +42,73 @@ pub struct Node {
     pub next: u32,
 }
 
+// A node's kind: the `Expr` enum in its order, 1 to 17, the `Stmt` enum in its order, 18 to 30, an elif branch, a parameter or loop name. `Kinds` of specs/ has the same for definitions.
+impl Node {
+    pub const FN_EXPR: u32 = 1;
+
+    pub const VAR: u32 = 2;
+
+    pub const LIST: u32 = 3;
+
+    pub const DICTIONARY: u32 = 4;
+
+    pub const ASSIGN: u32 = 5;
+
+    pub const ACCESS: u32 = 6;
+
+    pub const BINARY: u32 = 7;
+
+    pub const CALL: u32 = 8;
+
+    pub const GET: u32 = 9;
+
+    pub const SET: u32 = 10;
+
+    pub const SUPER: u32 = 11;
+
+    pub const GROUPING: u32 = 12;
+
+    pub const LITERAL: u32 = 13;
+
+    pub const LOGICAL: u32 = 14;
+
+    pub const THIS: u32 = 15;
+
+    pub const UNARY: u32 = 16;
+
+    pub const EMPTY: u32 = 17;
+
+    pub const FN: u32 = 18;
+
+    pub const LET: u32 = 19;
+
+    pub const BLOCK: u32 = 20;
+
+    pub const CLASS: u32 = 21;
+
+    pub const CLASSIC_FOR: u32 = 22;
+
+    pub const ENHANCED_FOR: u32 = 23;
+
+    pub const WHILE: u32 = 24;
+
+    pub const IF: u32 = 25;
+
+    pub const CONTINUE: u32 = 26;
+
+    pub const RETURN: u32 = 27;
+
+    pub const BREAK: u32 = 28;
+
+    pub const TRY_CATCH: u32 = 29;
+
+    pub const EXPR: u32 = 30;
+
+    pub const ELIF: u32 = 31;
+
+    pub const NAME: u32 = 32;
+}
+
 // A table never counts more records than a word can name.
 fn cap(records: usize) -> u32
     ensures { λ r. ⌜ r ≡ min records 4294967295 ⌝ }
