@@ -1,3 +1,5 @@
 pub mod Table
 pub mod Words
 pub mod Rows
+pub mod Messages
+pub mod Outcomes

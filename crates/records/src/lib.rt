@@ -42,6 +42,54 @@ pub struct Node {
     pub next: u32,
 }
 
+// The outcomes of document 01, named here once: the numbers of specs/Outcomes.antt.
+pub struct Outcome {
+    pub number: u32,
+}
+
+impl Outcome {
+    // The end was reached.
+    pub const ENDED: u32 = 0;
+
+    pub const FATAL_STOP: u32 = 1;
+
+    // A number with a point runs to the last byte.
+    pub const NUMBER_AT_END: u32 = 2;
+
+    pub const NOT_TEXT: u32 = 3;
+
+    // Over 65,535 bytes.
+    pub const TOO_LONG: u32 = 4;
+
+    pub const NO_TOKEN_ROOM: u32 = 5;
+
+    pub const NO_ERROR_ROOM: u32 = 6;
+
+    pub const NO_NODE_ROOM: u32 = 7;
+
+    // A level over 128 would open.
+    pub const TOO_DEEP: u32 = 8;
+
+    // Decoding: no string stands there.
+    pub const NOT_A_STRING: u32 = 9;
+
+    // Decoding: the buffer is too short.
+    pub const NO_BUFFER_ROOM: u32 = 10;
+}
+
+// The messages, named here once: the numbers of specs/Messages.antt, which has their texts.
+pub struct Message {
+    pub number: u32,
+}
+
+impl Message {
+    pub const LONE_BANG: u32 = 1;
+
+    pub const ILLEGAL_CHARACTER: u32 = 2;
+
+    pub const UNCLOSED_STRING: u32 = 3;
+}
+
 // A table never counts more records than a word can name.
 fn cap(records: usize) -> u32
     ensures { λ r. ⌜ r ≡ min records 4294967295 ⌝ }
