@@ -13,6 +13,7 @@ use parser::Out;
 use parser::Seen;
 use parser::State;
 use records::Node;
+use records::Outcome;
 use token::Token;
 
 // Declarations up to the closing brace, which is passed.
@@ -645,7 +646,7 @@ pub fn declaration(
     ensures { λ r. ⌜ reply (r .p) (r .got) (now (errors .exit)) (now (nodes .exit)) ≡ lower (now (tokens .entry)) levels Declaration p (now (errors .entry)) (now (nodes .entry)) ⌝ }
 {
     if levels == 0 {
-        return parser::stopped(p, 8);
+        return parser::stopped(p, Outcome::TOO_DEEP);
     }
     let at = p.current;
     let coming = parser::peek(tokens, at);
@@ -1092,7 +1093,7 @@ fn unary(tokens: &[u32], errors: &mut [u32], nodes: &mut [u32], p: State, levels
         let j = coming.past;
         let q = p.at_token(j);
         if levels == 0 {
-            return parser::stopped(q, 8);
+            return parser::stopped(q, Outcome::TOO_DEEP);
         }
         let g = unary(tokens, errors, nodes, q, levels - 1);
         let k = g.got;
@@ -1158,7 +1159,7 @@ fn assignment(tokens: &[u32], errors: &mut [u32], nodes: &mut [u32], p: State, l
     ensures { λ r. ⌜ reply (r .p) (r .got) (now (errors .exit)) (now (nodes .exit)) ≡ lower (now (tokens .entry)) levels Assignment p (now (errors .entry)) (now (nodes .entry)) ⌝ }
 {
     if levels == 0 {
-        return parser::stopped(p, 8);
+        return parser::stopped(p, Outcome::TOO_DEEP);
     }
     let g = binary(tokens, errors, nodes, p, levels - 1, 0);
     let k = g.got;

@@ -17,6 +17,7 @@ use parser::Out;
 use parser::Seen;
 use parser::State;
 use records::Node;
+use records::Outcome;
 use token::Token;
 
 // A row of the node table; `next` is 0 until a list goes on.
@@ -94,7 +95,7 @@ pub fn fatal(tokens: &[u32], errors: &mut [u32], p: State, message: u32, token: 
         return g;
     };
     let q = g.p;
-    parser::stopped(q, 1)
+    parser::stopped(q, Outcome::FATAL_STOP)
 }
 
 // Parameters up to what is no comma; the 257th is message 10.

@@ -107,6 +107,7 @@ impl Node {
     pub const ELIF: u32 = 31;
 
     pub const NAME: u32 = 32;
+}
 
 // The outcomes of document 01, named here once: the numbers of specs/Outcomes.antt.
 pub struct Outcome {
@@ -149,7 +150,7 @@ impl Outcome {
     pub const GOES_ON: u32 = 19;
 }
 
-// The messages, named here once, each beside its text: the numbers of specs/Messages.antt.
+// The lexer's messages. specs/Messages.antt names all, for definitions; the readers' code has their numbers, which its contracts hold against those names.
 pub struct Message {
     pub number: u32,
 }
@@ -163,84 +164,6 @@ impl Message {
 
     // Closing " was expected
     pub const UNCLOSED_STRING: u32 = 3;
-
-    // Expected new line
-    pub const EXPECTED_NEW_LINE: u32 = 4;
-
-    // Expected variable name
-    pub const EXPECTED_VARIABLE_NAME: u32 = 5;
-
-    // Expected '{' at this position
-    pub const EXPECTED_LEFT_CURLY: u32 = 6;
-
-    // Expected '}' at this position
-    pub const EXPECTED_RIGHT_CURLY: u32 = 7;
-
-    // Expected function name
-    pub const EXPECTED_FUNCTION_NAME: u32 = 8;
-
-    // Expect '(' after function name
-    pub const EXPECT_PAREN_AFTER_NAME: u32 = 9;
-
-    // Max number of parameters is 255
-    pub const MAX_PARAMETERS: u32 = 10;
-
-    // Expected function parameter
-    pub const EXPECTED_PARAMETER: u32 = 11;
-
-    // Expect ')' after expression
-    pub const EXPECT_PAREN_AFTER_EXPRESSION: u32 = 12;
-
-    // Expected '(' after function name
-    pub const EXPECTED_PAREN_AFTER_NAME: u32 = 13;
-
-    // Expect function parameter
-    pub const EXPECT_PARAMETER: u32 = 14;
-
-    // Expected semicolon
-    pub const EXPECTED_SEMICOLON: u32 = 15;
-
-    // Empty expression or let was expected at this position
-    pub const EMPTY_OR_LET: u32 = 16;
-
-    // Expected 'in'
-    pub const EXPECTED_IN: u32 = 17;
-
-    // A catch block was expected at this position
-    pub const EXPECTED_CATCH: u32 = 18;
-
-    // Statement only allowed for use inside loop
-    pub const ONLY_INSIDE_LOOP: u32 = 19;
-
-    // Expected ']' at end of list
-    pub const EXPECTED_END_OF_LIST: u32 = 20;
-
-    // Expected '}' at the end of dict
-    pub const EXPECTED_END_OF_DICT: u32 = 21;
-
-    // Expected ':' after key
-    pub const EXPECTED_COLON_AFTER_KEY: u32 = 22;
-
-    // Undefined statement
-    pub const UNDEFINED_STATEMENT: u32 = 23;
-
-    // Expected ']' at the end of slice
-    pub const EXPECTED_END_OF_SLICE: u32 = 24;
-
-    // Expected property name after '.'
-    pub const EXPECTED_PROPERTY_NAME: u32 = 25;
-
-    // Expect ')' after arguments
-    pub const EXPECT_PAREN_AFTER_ARGUMENTS: u32 = 26;
-
-    // Max number of arguments is 255
-    pub const MAX_ARGUMENTS: u32 = 27;
-
-    // Undefined expression
-    pub const UNDEFINED_EXPRESSION: u32 = 28;
-
-    // Keyword 'super' is only valid for property accessing
-    pub const SUPER_ONLY_FOR_PROPERTY: u32 = 29;
 }
 
 // A table never counts more records than a word can name.
