@@ -8,7 +8,7 @@ use native.Mathlib.Nat.{min-le-right, le-trans}
 use borrow.Author.Tests.{ltb-true, ltb-false, lt-ltb, le-ltb}
 use lib.Dec.{ltb}
 use lib.ListN.{length}
-use Rattle.records.specs.Table.{room, put, errorWidth, nodeWidth, Pushed}
+use Rattle.records.specs.Table.{room, errorWidth, nodeWidth, Pushed}
 use Rattle.records.specs.Words.{errorWords, nodeWords}
 use Rattle.records.specs.declared.Node as rows
 use Rattle.records.specs.declared.InterpreterError.{InterpreterError}
