@@ -13,6 +13,7 @@ use parser::Out;
 use parser::Seen;
 use parser::State;
 use records::Node;
+use records::Outcome;
 use token::Token;
 
 // Declarations up to the closing brace, which is passed.
@@ -94,7 +95,7 @@ fn fn_stmt(tokens: &[u32], errors: &mut [u32], nodes: &mut [u32], p: State, leve
         return h;
     };
     let s = h.p;
-    let f = func(tokens, errors, nodes, s, levels, 18, name.node, 11);
+    let f = func(tokens, errors, nodes, s, levels, Node::FN, name.node, 11);
     let k = f.got;
     let Got::Node(_) = k else {
         return f;
@@ -116,7 +117,16 @@ fn fn_expr(tokens: &[u32], errors: &mut [u32], nodes: &mut [u32], p: State, leve
     };
     let s = h.p;
     let outer = s.loops;
-    let f = func(tokens, errors, nodes, s.with_loops(0), levels, 1, 0, 14);
+    let f = func(
+        tokens,
+        errors,
+        nodes,
+        s.with_loops(0),
+        levels,
+        Node::FN_EXPR,
+        0,
+        14,
+    );
     let k = f.got;
     let Got::Node(_) = k else {
         return f;
@@ -221,7 +231,11 @@ fn let_stmt(tokens: &[u32], errors: &mut [u32], nodes: &mut [u32], p: State, lev
     let q = g.p;
     let at = q.current;
     let Seen::At(i) = parser::matches(tokens, at, Token::EQUAL) else {
-        return parser::make(nodes, q, pieces::row(19, name.node, 0, 0, 0, 0, 0, 0));
+        return parser::make(
+            nodes,
+            q,
+            pieces::row(Node::LET, name.node, 0, 0, 0, 0, 0, 0),
+        );
     };
     let h = assignment(tokens, errors, nodes, q.at_token(i), levels);
     let k = h.got;
@@ -229,7 +243,11 @@ fn let_stmt(tokens: &[u32], errors: &mut [u32], nodes: &mut [u32], p: State, lev
         return h;
     };
     let s = h.p;
-    parser::make(nodes, s, pieces::row(19, name.node, 0, 0, e.node, 0, 0, 0))
+    parser::make(
+        nodes,
+        s,
+        pieces::row(Node::LET, name.node, 0, 0, e.node, 0, 0, 0),
+    )
 }
 
 fn for_loop(
@@ -312,7 +330,16 @@ fn for_c(
     parser::make(
         nodes,
         q.leave_loop(),
-        pieces::row(22, keyword, 0, 0, init, cond.node, inc.node, stmt.node),
+        pieces::row(
+            Node::CLASSIC_FOR,
+            keyword,
+            0,
+            0,
+            init,
+            cond.node,
+            inc.node,
+            stmt.node,
+        ),
     )
 }
 
@@ -353,7 +380,16 @@ fn for_in(
     parser::make(
         nodes,
         q,
-        pieces::row(23, keyword, 0, 0, ids.node, collection.node, stmt.node, 0),
+        pieces::row(
+            Node::ENHANCED_FOR,
+            keyword,
+            0,
+            0,
+            ids.node,
+            collection.node,
+            stmt.node,
+            0,
+        ),
     )
 }
 
@@ -387,7 +423,16 @@ fn try_catch(tokens: &[u32], errors: &mut [u32], nodes: &mut [u32], p: State, le
     parser::make(
         nodes,
         q,
-        pieces::row(29, name.node, 0, 0, tried.node, caught.node, 0, 0),
+        pieces::row(
+            Node::TRY_CATCH,
+            name.node,
+            0,
+            0,
+            tried.node,
+            caught.node,
+            0,
+            0,
+        ),
     )
 }
 
@@ -430,7 +475,7 @@ fn if_stmt(
         return parser::make(
             nodes,
             q,
-            pieces::row(25, keyword, 0, 0, cond.node, stmts.node, e.node, 0),
+            pieces::row(Node::IF, keyword, 0, 0, cond.node, stmts.node, e.node, 0),
         );
     };
     let g = parser::consume(tokens, errors, q.at_token(i), Token::LEFT_CURLY_BRACE, 6);
@@ -475,7 +520,7 @@ fn elifs(tokens: &[u32], errors: &mut [u32], nodes: &mut [u32], p: State, levels
         let h = parser::make(
             nodes,
             q,
-            pieces::row(31, 0, 0, 0, cond.node, stmts.node, 0, 0),
+            pieces::row(Node::ELIF, 0, 0, 0, cond.node, stmts.node, 0, 0),
         );
         let k = h.got;
         let Got::Node(n) = k else {
@@ -503,7 +548,7 @@ fn ret(
         return parser::make(
             nodes,
             p.at_token(i),
-            pieces::row(27, keyword, 0, 0, 0, 0, 0, 0),
+            pieces::row(Node::RETURN, keyword, 0, 0, 0, 0, 0, 0),
         );
     }
     let g = assignment(tokens, errors, nodes, p, levels);
@@ -512,7 +557,11 @@ fn ret(
         return g;
     };
     let q = g.p;
-    parser::make(nodes, q, pieces::row(27, keyword, 0, 0, e.node, 0, 0, 0))
+    parser::make(
+        nodes,
+        q,
+        pieces::row(Node::RETURN, keyword, 0, 0, e.node, 0, 0, 0),
+    )
 }
 
 fn while_stmt(
@@ -540,7 +589,7 @@ fn while_stmt(
     parser::make(
         nodes,
         q.leave_loop(),
-        pieces::row(24, keyword, 0, 0, cond.node, stmt.node, 0, 0),
+        pieces::row(Node::WHILE, keyword, 0, 0, cond.node, stmt.node, 0, 0),
     )
 }
 
@@ -549,9 +598,9 @@ fn stmt(tokens: &[u32], errors: &mut [u32], nodes: &mut [u32], p: State, levels:
     ensures { λ r. ⌜ reply (r .p) (r .got) (now (errors .exit)) (now (nodes .exit)) ≡ runAt (now (tokens .entry)) levels (specs.statement (now (tokens .entry))) p (now (errors .entry)) (now (nodes .entry)) ⌝ }
 {
     let at = p.current;
-    let n = parser::skip(tokens, at);
-    let kind = parser::kind_at(tokens, n);
-    let i = parser::next(tokens, n);
+    let coming = parser::peek(tokens, at);
+    let kind = coming.kind;
+    let i = coming.past;
     if kind == Token::FOR {
         return for_loop(tokens, errors, nodes, p.at_token(i), levels, i);
     }
@@ -565,10 +614,10 @@ fn stmt(tokens: &[u32], errors: &mut [u32], nodes: &mut [u32], p: State, levels:
         return ret(tokens, errors, nodes, p.at_token(i), levels, i);
     }
     if kind == Token::BREAK {
-        return pieces::jump(tokens, errors, nodes, p.at_token(i), 28, i);
+        return pieces::jump(tokens, errors, nodes, p.at_token(i), Node::BREAK, i);
     }
     if kind == Token::CONTINUE {
-        return pieces::jump(tokens, errors, nodes, p.at_token(i), 26, i);
+        return pieces::jump(tokens, errors, nodes, p.at_token(i), Node::CONTINUE, i);
     }
     if kind == Token::WHILE {
         return while_stmt(tokens, errors, nodes, p.at_token(i), levels, i);
@@ -580,7 +629,7 @@ fn stmt(tokens: &[u32], errors: &mut [u32], nodes: &mut [u32], p: State, levels:
             return g;
         };
         let q = g.p;
-        return parser::make(nodes, q, pieces::row(20, 0, 0, 0, b.node, 0, 0, 0));
+        return parser::make(nodes, q, pieces::row(Node::BLOCK, 0, 0, 0, b.node, 0, 0, 0));
     }
     let g = assignment(tokens, errors, nodes, p, levels);
     pieces::expression_stmt(nodes, g)
@@ -597,12 +646,12 @@ pub fn declaration(
     ensures { λ r. ⌜ reply (r .p) (r .got) (now (errors .exit)) (now (nodes .exit)) ≡ lower (now (tokens .entry)) levels Declaration p (now (errors .entry)) (now (nodes .entry)) ⌝ }
 {
     if levels == 0 {
-        return parser::stopped(p, 8);
+        return parser::stopped(p, Outcome::TOO_DEEP);
     }
     let at = p.current;
-    let n = parser::skip(tokens, at);
-    let kind = parser::kind_at(tokens, n);
-    let i = parser::next(tokens, n);
+    let coming = parser::peek(tokens, at);
+    let kind = coming.kind;
+    let i = coming.past;
     if kind == Token::CLASS {
         return class(tokens, errors, nodes, p.at_token(i), levels - 1);
     }
@@ -925,11 +974,15 @@ fn primary(tokens: &[u32], errors: &mut [u32], nodes: &mut [u32], p: State, leve
     ensures { λ r. ⌜ reply (r .p) (r .got) (now (errors .exit)) (now (nodes .exit)) ≡ runAt (now (tokens .entry)) levels (specs.primary (now (tokens .entry))) p (now (errors .entry)) (now (nodes .entry)) ⌝ }
 {
     let at = p.current;
-    let i = parser::skip(tokens, at);
-    let kind = parser::kind_at(tokens, i);
-    let j = parser::next(tokens, i);
+    let coming = parser::peek(tokens, at);
+    let kind = coming.kind;
+    let j = coming.past;
     if pieces::is_literal(kind) {
-        return parser::make(nodes, p.at_token(j), pieces::row(13, j, 0, 0, 0, 0, 0, 0));
+        return parser::make(
+            nodes,
+            p.at_token(j),
+            pieces::row(Node::LITERAL, j, 0, 0, 0, 0, 0, 0),
+        );
     }
     if kind == Token::IDENTIFIER {
         return pieces::variable(nodes, p.at_token(j), j);
@@ -962,7 +1015,11 @@ fn primary(tokens: &[u32], errors: &mut [u32], nodes: &mut [u32], p: State, leve
         return fn_expr(tokens, errors, nodes, p.at_token(j), levels);
     }
     if kind == Token::THIS {
-        return parser::make(nodes, p.at_token(j), pieces::row(15, j, 0, 0, 0, 0, 0, 0));
+        return parser::make(
+            nodes,
+            p.at_token(j),
+            pieces::row(Node::THIS, j, 0, 0, 0, 0, 0, 0),
+        );
     }
     if kind == Token::SUPER {
         return pieces::super_expr(tokens, errors, nodes, p.at_token(j), j);
@@ -985,9 +1042,9 @@ fn call(tokens: &[u32], errors: &mut [u32], nodes: &mut [u32], p: State, levels:
     let mut q = g.p;
     loop {
         let at = q.current;
-        let i = parser::skip(tokens, at);
-        let kind = parser::kind_at(tokens, i);
-        let j = parser::next(tokens, i);
+        let coming = parser::peek(tokens, at);
+        let kind = coming.kind;
+        let j = coming.past;
         if kind == Token::LEFT_PAREN {
             let args = arguments(
                 tokens,
@@ -1030,13 +1087,13 @@ fn unary(tokens: &[u32], errors: &mut [u32], nodes: &mut [u32], p: State, levels
     ensures { λ r. ⌜ reply (r .p) (r .got) (now (errors .exit)) (now (nodes .exit)) ≡ runAt (now (tokens .entry)) levels (specs.unary (now (tokens .entry))) p (now (errors .entry)) (now (nodes .entry)) ⌝ }
 {
     let at = p.current;
-    let i = parser::skip(tokens, at);
-    let kind = parser::kind_at(tokens, i);
+    let coming = parser::peek(tokens, at);
+    let kind = coming.kind;
     if (kind == Token::NOT) | (kind == Token::MINUS) {
-        let j = parser::next(tokens, i);
+        let j = coming.past;
         let q = p.at_token(j);
         if levels == 0 {
-            return parser::stopped(q, 8);
+            return parser::stopped(q, Outcome::TOO_DEEP);
         }
         let g = unary(tokens, errors, nodes, q, levels - 1);
         let k = g.got;
@@ -1044,7 +1101,7 @@ fn unary(tokens: &[u32], errors: &mut [u32], nodes: &mut [u32], p: State, levels
             return g;
         };
         let s = g.p;
-        return parser::make(nodes, s, pieces::row(16, j, 0, 0, e.node, 0, 0, 0));
+        return parser::make(nodes, s, pieces::row(Node::UNARY, j, 0, 0, e.node, 0, 0, 0));
     }
     call(tokens, errors, nodes, p, levels)
 }
@@ -1070,8 +1127,8 @@ fn binary(
     let mut r: u32 = 7;
     loop {
         let at = s.current;
-        let i = parser::skip(tokens, at);
-        let kind = parser::kind_at(tokens, i);
+        let coming = parser::peek(tokens, at);
+        let kind = coming.kind;
         let rank = pieces::rank_of(kind);
         if rank <= looser {
             return pieces::found(s, left);
@@ -1079,7 +1136,7 @@ fn binary(
         if r < rank {
             return pieces::found(s, left);
         }
-        let j = parser::next(tokens, i);
+        let j = coming.past;
         let h = binary(tokens, errors, nodes, s.at_token(j), levels, rank);
         let kh = h.got;
         let Got::Node(right) = kh else {
@@ -1102,7 +1159,7 @@ fn assignment(tokens: &[u32], errors: &mut [u32], nodes: &mut [u32], p: State, l
     ensures { λ r. ⌜ reply (r .p) (r .got) (now (errors .exit)) (now (nodes .exit)) ≡ lower (now (tokens .entry)) levels Assignment p (now (errors .entry)) (now (nodes .entry)) ⌝ }
 {
     if levels == 0 {
-        return parser::stopped(p, 8);
+        return parser::stopped(p, Outcome::TOO_DEEP);
     }
     let g = binary(tokens, errors, nodes, p, levels - 1, 0);
     let k = g.got;

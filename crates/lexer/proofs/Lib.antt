@@ -5,6 +5,3 @@ pub mod Flow
 pub mod Turn
 pub mod Bounds
 pub mod Tables
-pub mod Kept
-pub mod Answer
-pub mod Examples

@@ -4,12 +4,14 @@ use mathlib.Core.Bool.{Bool, true, false}
 use mathlib.Core.List.{List, [], _∷_}
 use lib.Dec.{eqb}
 use lib.ListN.{take}
+use Rattle.token.specs.Kind as kinds
 use Rattle.token.specs.Keyword.{keywordOf}
 use Rattle.spans.specs.Span.{isAlpha, isDigit, isInner, run}
 use Rattle.numbers.specs.Number.{numberOf}
 use Rattle.strings.specs.declared.Ended.{Ended}
 use Rattle.strings.specs.declared.Ended.the-variants.{Closed, Broken}
 use Rattle.strings.specs.Strings.{readOf, begun}
+use Rattle.records.specs.Messages.{loneBang, illegalCharacter, unclosedString}
 use Rattle.lexer.specs.declared.Sign.{Sign}
 use Rattle.lexer.specs.declared.Sign.the-variants.{Newline, Blank, Hash, Quote, Single, Pair, Illegal}
 use Rattle.lexer.specs.declared.Item.{Item}
@@ -31,35 +33,35 @@ abbrev pub find : ℕ → List Row → Sign
 find b [] = Illegal
 find b (x ∷ xs) = pickSign (eqb b (x .byte)) (x .is) (find b xs)
 
--- the marks with their kinds; of a mark that may have = after it the kind alone (0 for !, which is no token then) and the kind with it
+-- the marks with their kinds; of a mark that may have = after it the kind alone (EOF's for !, which is no token then) and the kind with it
 abbrev pub signs : List Row
 signs =
-    record { byte = 10; is = Newline } ∷
+    record { byte = 10; is = Newline } ∷  -- newline
     record { byte = 32; is = Blank } ∷  -- space
     record { byte = 9; is = Blank } ∷  -- tab
     record { byte = 13; is = Blank } ∷  -- carriage return
-    record { byte = 35; is = Hash } ∷
-    record { byte = 34; is = Quote } ∷
-    record { byte = 33; is = Pair 0 18 } ∷  -- !
-    record { byte = 61; is = Pair 19 20 } ∷  -- =
-    record { byte = 62; is = Pair 21 22 } ∷  -- >
-    record { byte = 60; is = Pair 23 24 } ∷  -- <
-    record { byte = 40; is = Single 2 } ∷  -- (
-    record { byte = 41; is = Single 3 } ∷  -- )
-    record { byte = 91; is = Single 4 } ∷  -- [
-    record { byte = 93; is = Single 5 } ∷  -- ]
-    record { byte = 125; is = Single 6 } ∷  -- }
-    record { byte = 123; is = Single 7 } ∷  -- {
-    record { byte = 44; is = Single 8 } ∷  -- ,
-    record { byte = 46; is = Single 9 } ∷  -- .
-    record { byte = 45; is = Single 10 } ∷  -- -
-    record { byte = 43; is = Single 11 } ∷  -- +
-    record { byte = 47; is = Single 12 } ∷  -- /
-    record { byte = 37; is = Single 13 } ∷  -- %
-    record { byte = 42; is = Single 14 } ∷  -- *
-    record { byte = 94; is = Single 15 } ∷  -- ^
-    record { byte = 58; is = Single 16 } ∷  -- :
-    record { byte = 59; is = Single 17 } ∷  -- ;
+    record { byte = 35; is = Hash } ∷  -- #
+    record { byte = 34; is = Quote } ∷  -- "
+    record { byte = 33; is = Pair kinds.EOF kinds.BangEqual } ∷  -- !
+    record { byte = 61; is = Pair kinds.Equal kinds.EqualEqual } ∷  -- =
+    record { byte = 62; is = Pair kinds.Greater kinds.GreaterEqual } ∷  -- >
+    record { byte = 60; is = Pair kinds.Less kinds.LessEqual } ∷  -- <
+    record { byte = 40; is = Single kinds.LeftParen } ∷  -- (
+    record { byte = 41; is = Single kinds.RightParen } ∷  -- )
+    record { byte = 91; is = Single kinds.LeftBrace } ∷  -- [
+    record { byte = 93; is = Single kinds.RightBrace } ∷  -- ]
+    record { byte = 125; is = Single kinds.RightCurlyBrace } ∷  -- }
+    record { byte = 123; is = Single kinds.LeftCurlyBrace } ∷  -- {
+    record { byte = 44; is = Single kinds.Comma } ∷  -- ,
+    record { byte = 46; is = Single kinds.Dot } ∷  -- .
+    record { byte = 45; is = Single kinds.Minus } ∷  -- -
+    record { byte = 43; is = Single kinds.Plus } ∷  -- +
+    record { byte = 47; is = Single kinds.Slash } ∷  -- /
+    record { byte = 37; is = Single kinds.Mod } ∷  -- %
+    record { byte = 42; is = Single kinds.Star } ∷  -- *
+    record { byte = 94; is = Single kinds.Power } ∷  -- ^
+    record { byte = 58; is = Single kinds.Colon } ∷  -- :
+    record { byte = 59; is = Single kinds.Semicolon } ∷  -- ;
     []
 
 -- what the byte b is
@@ -96,16 +98,16 @@ abbrev pub nameAt : List ℕ → Item
 nameAt [] = Space
 nameAt (b ∷ s) = nameOf b s
 
--- rule 5: a string that closes is a token; else it is message 3
+-- rule 5: a string that closes is a token; else it is a message
 abbrev pub textItem : Ended → Item
 textItem (Closed n m l) = Text (suc n) m l
-textItem (Broken n m) = Wrong 3 (suc n) m
+textItem (Broken n m) = Wrong unclosedString (suc n) m
 
--- rule 6: message 1 for a lone !, which has no kind
+-- rule 6: a message for a lone !, which has no kind
 abbrev pub lone : ℕ → Item
-lone k = pickItem (eqb k 0) (Wrong 1 1 0) (Mark k 1 0)
+lone k = pickItem (eqb k kinds.EOF) (Wrong loneBang 1 0) (Mark k 1 0)
 
--- rule 6: ==, !=, <= and >= are one token where the two bytes stand together
+-- rule 6: ==, !=, <= and >= are one token where the two bytes stand together; 61 is =
 abbrev pub pairAt : ℕ → ℕ → List ℕ → Item
 pairAt k l [] = lone k
 pairAt k l (x ∷ s) = pickItem (eqb x 61) (Mark l 2 0) (lone k)
@@ -114,13 +116,13 @@ pairAt k l (x ∷ s) = pickItem (eqb x 61) (Mark l 2 0) (lone k)
 abbrev pub itemAs : Class → ℕ → List ℕ → Item
 itemAs letter b s = nameOf b s
 itemAs digit b s = Number (numberOf b s)
-itemAs (sign Newline) b s = Mark 1 1 1
+itemAs (sign Newline) b s = Mark kinds.Newline 1 1
 itemAs (sign Blank) b s = Space
 itemAs (sign Hash) b s = Comment (suc (run isInner s))
 itemAs (sign Quote) b s = textItem (readOf s begun)
 itemAs (sign (Single k)) b s = Mark k 1 0
 itemAs (sign (Pair k l)) b s = pairAt k l s
-itemAs (sign Illegal) b s = Wrong 2 1 0
+itemAs (sign Illegal) b s = Wrong illegalCharacter 1 0
 
 -- the item whose first byte is b, with s behind it
 abbrev pub itemOf : ℕ → List ℕ → Item

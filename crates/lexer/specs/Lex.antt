@@ -5,6 +5,7 @@ use mathlib.Core.Bool.{Bool, true, false, not, _&&_}
 use mathlib.Core.List.{List, [], _∷_, _++_}
 use lib.Dec.{ltb, eqb}
 use lib.ListN.{length, drop}
+use Rattle.token.specs.Kind as kinds
 use Rattle.text.specs.Text.{isText}
 use Rattle.literal.specs.declared.Span.{Span}
 use Rattle.literal.specs.declared.Words.{Words}
@@ -12,6 +13,7 @@ use Rattle.literal.specs.declared.Literal.the-variants as literals
 use Rattle.literal.specs.Value.{valueOf, wordsOf}
 use Rattle.records.specs.Table.{room, tokenWidth, errorWidth}
 use Rattle.records.specs.Words.{tokenWords, errorWords}
+use Rattle.records.specs.Outcomes.{ended, numberAtEnd, notText, tooLong, noTokenRoom, noErrorRoom}
 use Rattle.lexer.specs.declared.Scanned.{Scanned}
 use Rattle.lexer.specs.declared.Item.{Item}
 use Rattle.lexer.specs.declared.Item.the-variants.{Space, Comment, Name, Text, Number, Mark, Wrong}
@@ -67,7 +69,7 @@ abbrev pub spanOf : ℕ → State → Span
 spanOf n t = record { start = t .at; length = n }
 
 module _ (tokenRoom errorRoom : ℕ) where
-  -- a token of n bytes that passes m newlines: they raise the line, then it is emitted; outcome 5 where it finds no room
+  -- a token of n bytes that passes m newlines: they raise the line, then it is emitted; a stop where it finds no room
   abbrev pub token : ℕ → ℕ → ℕ → Words → State → Onward
   token kind n m w t =
       pickOnward (ltb (t .tokenCount) tokenRoom)
@@ -81,9 +83,9 @@ module _ (tokenRoom errorRoom : ℕ) where
         errorCount = t .errorCount;
         errors = t .errors;
       }))
-      (stop 5)
+      (stop noTokenRoom)
 
-  -- a message about n bytes that pass m newlines; outcome 6 where it finds no room
+  -- a message about n bytes that pass m newlines; a stop where it finds no room
   abbrev pub error : ℕ → ℕ → ℕ → State → Onward
   error e n m t =
       pickOnward (ltb (t .errorCount) errorRoom)
@@ -97,40 +99,40 @@ module _ (tokenRoom errorRoom : ℕ) where
         errorCount = t .errorCount + 1;
         errors = t .errors ++ errorWords (record { message = e; line = t .line + m; pos = t .at });
       }))
-      (stop 6)
+      (stop noErrorRoom)
 
-  -- one item: blanks and comments emit nothing; a number with a point that runs to the last byte is outcome 2
+  -- one item: blanks and comments emit nothing; a number with a point that runs to the last byte is a stop
   abbrev pub step : Item → State → Onward
   step Space t = go (passed 1 t)
   step (Comment n) t = go (passed n t)
   step (Name k n) t = token k n 0 noValue t
-  step (Text n m l) t = token 26 n m (wordsOf (literals.Text (spanOf n t) l)) t
-  step (Number x) t = pickOnward (x .cut) (stop 2) (token 27 (x .size) 0 (wordsOf (valueOf (x .whole) (x .places) (spanOf (x .size) t))) t)
+  step (Text n m l) t = token kinds.String n m (wordsOf (literals.Text (spanOf n t) l)) t
+  step (Number x) t = pickOnward (x .cut) (stop numberAtEnd) (token kinds.Number (x .size) 0 (wordsOf (valueOf (x .whole) (x .places) (spanOf (x .size) t))) t)
   step (Mark k n m) t = token k n m noValue t
   step (Wrong e n m) t = error e n m t
 
   -- rule 7: if any token exists and the last isn't Newline, an empty Newline is added
   abbrev pub closing : State → Onward
-  closing t = pickOnward (ltb 0 (t .tokenCount) && not (eqb (t .last) 1)) (token 1 0 0 noValue t) (go t)
+  closing t = pickOnward (ltb 0 (t .tokenCount) && not (eqb (t .last) kinds.Newline)) (token kinds.Newline 0 0 noValue t) (go t)
 
   -- rule 7: EOF always
   abbrev pub finish : State → Result
-  finish t = andThen (closing t) t (λ u. andThen (token 0 0 0 noValue u) u (kept 0))
+  finish t = andThen (closing t) t (λ u. andThen (token kinds.EOF 0 0 noValue u) u (kept ended))
 
   -- the items that are left
   abbrev pub emit : List Item → State → Result
   emit [] t = finish t
   emit (x ∷ xs) t = andThen (step x t) t (emit xs)
 
--- line starts at 1
+-- line starts at 1; no token is the last one yet
 abbrev pub fresh : State
-fresh = record { at = 0; line = 1; tokenCount = 0; last = 0; tokens = []; errorCount = 0; errors = [] }
+fresh = record { at = 0; line = 1; tokenCount = 0; last = kinds.EOF; tokens = []; errorCount = 0; errors = [] }
 
 -- the lexing of a source that is text and not too long, with room for so many tokens and errors
 unfoldable pub lexed : List ℕ → ℕ → ℕ → Result
 lexed s tokenRoom errorRoom = emit tokenRoom errorRoom (items s 0) fresh
 
--- outcomes 3 and 4 keep nothing
+-- a source that is too long or no text keeps nothing
 abbrev pub refusal : ℕ → Result
 refusal o = record { outcome = o; tokenCount = 0; errorCount = 0; tokens = []; errors = [] }
 
@@ -139,10 +141,10 @@ abbrev pub pickResult : Bool → Result → Result → Result
 pickResult true a b = a
 pickResult false a b = b
 
--- the lexing of any bytes: 4 is tested first, then 3
+-- the lexing of any bytes: the length is tested first, then the text
 unfoldable pub lexedOf : List ℕ → ℕ → ℕ → Result
 lexedOf s tokenRoom errorRoom =
-    pickResult (ltb 65535 (length s)) (refusal 4) (pickResult (not (isText s)) (refusal 3) (lexed s tokenRoom errorRoom))
+    pickResult (ltb 65535 (length s)) (refusal tooLong) (pickResult (not (isText s)) (refusal notText) (lexed s tokenRoom errorRoom))
 
 -- what a lexing answers, and the tables it leaves: the kept records, and behind them every word unchanged
 pub record Lexing (d : Result) (r : Scanned) (tokens tokens′ errors errors′ : List ℕ) : Type 0 where

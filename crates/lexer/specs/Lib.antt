@@ -1,4 +1,3 @@
 pub mod Items
 pub mod Lex
 pub mod Steps
-pub mod Kept

@@ -5,6 +5,7 @@ use mathlib.Core.Path.{_≡_}
 use mathlib.Core.Bool.{Bool, true, false, not, _&&_}
 use mathlib.Core.List.{List, [], _∷_}
 use lib.Dec.{ltb, eqb}
+use Rattle.token.specs.Kind as kinds
 use Rattle.literal.specs.declared.Span.{Span}
 use Rattle.literal.specs.declared.Words.{Words}
 use Rattle.literal.specs.declared.Literal.the-variants as literals
@@ -13,6 +14,7 @@ use Rattle.records.specs.declared.TokenData.{TokenData}
 use Rattle.records.specs.declared.InterpreterError.{InterpreterError}
 use Rattle.records.specs.Table.{room, put, tokenWidth, errorWidth}
 use Rattle.records.specs.Words.{tokenWords, errorWords}
+use Rattle.records.specs.Outcomes as outcomes
 use Rattle.lexer.specs.declared.Lexer.{Lexer}
 use Rattle.lexer.specs.declared.Scanned.{Scanned}
 use Rattle.lexer.specs.declared.Next.{Next}
@@ -78,7 +80,7 @@ onIn l t e = record { next = On l; tokens = t; errors = e }
 
 -- a token: how it goes on, and the token table
 abbrev pub emitNext : Lexer → ℕ → ℕ → ℕ → List ℕ → Next
-emitNext l kind n m t = pickNext (ltb (l .tokens) (room tokenWidth t)) (On (tokenMore l kind n m)) (Stop 5)
+emitNext l kind n m t = pickNext (ltb (l .tokens) (room tokenWidth t)) (On (tokenMore l kind n m)) (Stop outcomes.noTokenRoom)
 
 -- the token table with the token, as far as it has room
 abbrev pub emitTable : Lexer → ℕ → ℕ → ℕ → Words → List ℕ → List ℕ
@@ -90,7 +92,7 @@ emitIn l kind n m w t e = record { next = emitNext l kind n m t; tokens = emitTa
 
 -- a message: how it goes on, and the error table
 abbrev pub errorNext : Lexer → ℕ → ℕ → List ℕ → Next
-errorNext l n m e = pickNext (ltb (l .errors) (room errorWidth e)) (On (errorMore l n m)) (Stop 6)
+errorNext l n m e = pickNext (ltb (l .errors) (room errorWidth e)) (On (errorMore l n m)) (Stop outcomes.noErrorRoom)
 
 -- the error table with the error, as far as it has room
 abbrev pub errorTable : Lexer → ℕ → ℕ → List ℕ → List ℕ
@@ -105,16 +107,16 @@ abbrev pub stepIn : Item → Lexer → List ℕ → List ℕ → Did
 stepIn Space l t e = onIn (advanced l 1) t e
 stepIn (Comment n) l t e = onIn (advanced l n) t e
 stepIn (Name k n) l t e = emitIn l k n 0 noValue t e
-stepIn (Text n m d) l t e = emitIn l 26 n m (wordsOf (literals.Text (record { start = l .current; length = n }) d)) t e
+stepIn (Text n m d) l t e = emitIn l kinds.String n m (wordsOf (literals.Text (record { start = l .current; length = n }) d)) t e
 stepIn (Number x) l t e =
-    pickDid (x .cut) (record { next = Stop 2; tokens = t; errors = e })
-    (emitIn l 27 (x .size) 0 (numberWords l (x .size) (x .whole) (x .places)) t e)
+    pickDid (x .cut) (record { next = Stop outcomes.numberAtEnd; tokens = t; errors = e })
+    (emitIn l kinds.Number (x .size) 0 (numberWords l (x .size) (x .whole) (x .places)) t e)
 stepIn (Mark k n m) l t e = emitIn l k n m noValue t e
 stepIn (Wrong message n m) l t e = record { next = errorNext l n m e; tokens = t; errors = errorTable l message m e }
 
 -- rule 7's Newline
 abbrev pub closeIn : Lexer → List ℕ → List ℕ → Did
-closeIn l t e = pickDid (ltb 0 (l .tokens) && not (eqb (l .last) 1)) (emitIn l 1 0 0 noValue t e) (onIn l t e)
+closeIn l t e = pickDid (ltb 0 (l .tokens) && not (eqb (l .last) kinds.Newline)) (emitIn l kinds.Newline 0 0 noValue t e) (onIn l t e)
 
 -- the answer with the outcome o
 abbrev pub ended : ℕ → Lexer → Scanned
@@ -137,7 +139,7 @@ andThenIn d l k = thenIn (d .next) (d .tokens) (d .errors) l k
 
 -- rule 7's EOF
 abbrev pub eofIn : Lexer → List ℕ → List ℕ → Done
-eofIn l t e = andThenIn (emitIn l 0 0 0 noValue t e) l (λ m u f. record { answer = ended 0 m; tokens = u; errors = f })
+eofIn l t e = andThenIn (emitIn l kinds.EOF 0 0 noValue t e) l (λ m u f. record { answer = ended outcomes.ended m; tokens = u; errors = f })
 
 -- rule 7
 abbrev pub finishIn : Lexer → List ℕ → List ℕ → Done
@@ -150,7 +152,7 @@ scanIn (x ∷ xs) l t e = andThenIn (stepIn x l t e) l (scanIn xs)
 
 -- the state at the start
 abbrev pub start : Lexer
-start = record { current = 0; line = 1; tokens = 0; errors = 0; last = 0 }
+start = record { current = 0; line = 1; tokens = 0; errors = 0; last = kinds.EOF }
 
 -- a function's answer and tables are those of a step
 pub record Does (d : Did) (r : Next) (t e : List ℕ) : Type 0 where

@@ -13,6 +13,8 @@ use literal::Span;
 use literal::Words;
 use numbers::Numeral;
 use records::InterpreterError;
+use records::Message;
+use records::Outcome;
 use records::TokenData;
 use strings::Ended;
 use token::Token;
@@ -86,10 +88,10 @@ pub fn scan(source: &[u8], tokens: &mut [u32], errors: &mut [u32]) -> Scanned
         r (now (tokens .entry)) (now (tokens .exit)) (now (errors .entry)) (now (errors .exit)) ⌝ }
 {
     if source.len() > 65535 {
-        return refuse(4);
+        return refuse(Outcome::TOO_LONG);
     }
     if !text::is_text(source) {
-        return refuse(3);
+        return refuse(Outcome::NOT_TEXT);
     }
     scan_tokens(source, tokens, errors)
 }
@@ -172,7 +174,7 @@ fn eof(tokens: &mut [u32], l: Lexer) -> Scanned
     ensures { λ r. ⌜ Ends (eofIn l (now (tokens .entry)) []) r (now (tokens .exit)) [] ⌝ }
 {
     match emit(tokens, l, Token::EOF, 0, 0, literal::none()) {
-        Next::On(m) => ends(0, m),
+        Next::On(m) => ends(Outcome::ENDED, m),
         Next::Stop(o) => ends(o, l),
     }
 }
@@ -206,7 +208,7 @@ fn scan_token(tokens: &mut [u32], errors: &mut [u32], l: Lexer, x: Item) -> Next
         }
         Item::Number(n) => {
             if n.cut {
-                return Next::Stop(2);
+                return Next::Stop(Outcome::NUMBER_AT_END);
             }
             let span = Span {
                 start: l.current as u32,
@@ -244,7 +246,7 @@ fn advance(l: Lexer, n: usize) -> Next
     })
 }
 
-// Writes a token of that kind, with size bytes and as many lines passed; 5 where it finds no room.
+// Writes a token of that kind, with size bytes and as many lines passed; a stop where it finds no room.
 fn emit(tokens: &mut [u32], l: Lexer, kind: u32, size: usize, lines: usize, w: Words) -> Next
     requires { ⌜ (l .current + size ≤ 65535) × (l .line + lines ≤ 65536) ⌝ }
     ensures { λ r. ⌜ (r ≡ emitNext l kind size lines (now (tokens .entry))) × (now (tokens .exit) ≡ emitTable l kind size lines w (now (tokens .entry))) ⌝ }
@@ -265,7 +267,7 @@ fn emit(tokens: &mut [u32], l: Lexer, kind: u32, size: usize, lines: usize, w: W
         },
     );
     if !room {
-        return Next::Stop(5);
+        return Next::Stop(Outcome::NO_TOKEN_ROOM);
     }
     Next::On(Lexer {
         current: l.current + size,
@@ -276,7 +278,7 @@ fn emit(tokens: &mut [u32], l: Lexer, kind: u32, size: usize, lines: usize, w: W
     })
 }
 
-// Records a message about size bytes, with as many lines passed; 6 where it finds no room.
+// Records a message about size bytes, with as many lines passed; a stop where it finds no room.
 fn set_error(errors: &mut [u32], l: Lexer, message: u32, size: usize, lines: usize) -> Next
     requires { ⌜ (l .current + size ≤ 65535) × (l .line + lines ≤ 65536) ⌝ }
     ensures { λ r. ⌜ (r ≡ errorNext l size lines (now (errors .entry))) × (now (errors .exit) ≡ errorTable l message lines (now (errors .entry))) ⌝ }
@@ -293,7 +295,7 @@ fn set_error(errors: &mut [u32], l: Lexer, message: u32, size: usize, lines: usi
         },
     );
     if !room {
-        return Next::Stop(6);
+        return Next::Stop(Outcome::NO_ERROR_ROOM);
     }
     Next::On(Lexer {
         current: l.current + size,
@@ -347,7 +349,7 @@ fn item_of(s: &[u8], i: usize) -> Item
         Sign::Single(kind) => mark(kind),
         Sign::Pair(alone, with) => pair(s, i, alone, with),
         Sign::Illegal => Item::Wrong {
-            message: 2,
+            message: Message::ILLEGAL_CHARACTER,
             size: 1,
             lines: 0,
         },
@@ -382,7 +384,7 @@ fn string(s: &[u8], i: usize) -> Item
             length,
         },
         Ended::Broken { size, lines } => Item::Wrong {
-            message: 3,
+            message: Message::UNCLOSED_STRING,
             size: size + 1,
             lines,
         },
@@ -435,7 +437,7 @@ fn mark(kind: u32) -> Item
     }
 }
 
-// A mark that may have `=` after it, at i. A lone `!` is message 1.
+// A mark that may have `=` after it, at i. A lone `!` is a message.
 fn pair(s: &[u8], i: usize, alone: u32, with: u32) -> Item
     requires { ⌜ i < length (now s) ⌝ }
     ensures { λ r. ⌜ r ≡ pairAt alone with (drop (i + 1) (now (s .entry))) ⌝ }
@@ -452,7 +454,7 @@ fn pair(s: &[u8], i: usize, alone: u32, with: u32) -> Item
     }
     if alone == Token::EOF {
         return Item::Wrong {
-            message: 1,
+            message: Message::LONE_BANG,
             size: 1,
             lines: 0,
         };

@@ -4,6 +4,8 @@ use mathlib.Core.Bool.{Bool, true, false, _&&_}
 use mathlib.Core.List.{List, [], _∷_}
 use lib.Dec.{leb, ltb, eqb}
 use Rattle.token.specs.Kind.{Newline, LeftParen, RightParen, LeftBrace, RightBrace, RightCurlyBrace, LeftCurlyBrace, Comma, Dot, Minus, Plus, Slash, Mod, Star, Power, Colon, Semicolon, BangEqual, Equal, EqualEqual, Greater, GreaterEqual, Less, LessEqual, Identifier, String, Number, And, Class, Else, False, Fn, For, If, Elif, Nil, Or, Return, Break, Continue, Super, This, True, Let, While, Not, In, Try, Catch}
+use Rattle.records.specs.Messages.{expectedVariableName, expectedLeftCurly, expectedRightCurly, expectedFunctionName, expectParenAfterName, maxParameters, expectedParameter, expectParenAfterExpression, expectedParenAfterName, expectParameter, expectedSemicolon, emptyOrLet, expectedIn, expectedCatch, onlyInsideLoop, expectedEndOfList, expectedEndOfDict, expectedColonAfterKey, undefinedStatement, expectedEndOfSlice, expectedPropertyName, expectParenAfterArguments, maxArguments, undefinedExpression, superOnlyForProperty}
+use Rattle.records.specs.Outcomes.{fatalStop, outOfFuel, tooDeep}
 use Rattle.records.specs.declared.Node as rows
 use Rattle.parser.specs.declared.State.{State}
 use Rattle.parser.specs.declared.Form.{Form}
@@ -27,7 +29,7 @@ nothing = give (plain 0)
 
 -- the fuel of a loop is used up: that never happens
 abbrev pub spent : Prog
-spent = stop 99
+spent = stop outOfFuel
 
 -- `self.expression()`
 abbrev pub expression : Prog
@@ -73,8 +75,8 @@ when false a b = b
 abbrev pub assigned : Form → ℕ → ℕ → ℕ → Prog
 assigned (Name t) access value equal = node (assignRow t value access)
 assigned (Property t o) access value equal = node (setRow o t value access)
-assigned Other access value equal = do failAt 23 equal; stop 1
-assigned Empty access value equal = do failAt 23 equal; stop 1
+assigned Other access value equal = do failAt undefinedStatement equal; stop fatalStop
+assigned Empty access value equal = do failAt undefinedStatement equal; stop fatalStop
 
 -- a level of binary operators: whether it makes a Logical, and its operators in the order in which they are tried
 pub record Level : Type 0 where
@@ -127,7 +129,7 @@ module _ (T : List ℕ) where
   unfoldable pub parametersFrom : ℕ → ℕ → ℕ → ℕ → ℕ → Prog
   parametersFrom message zero n first last = spent
   parametersFrom message (suc f) n first last =
-      when (ltb 255 n) (do fail 10; stop 1) (do
+      when (ltb 255 n) (do fail maxParameters; stop fatalStop) (do
         i ← require Identifier message
         d ← node (nameRow (i .node))
         link last (d .node)
@@ -144,21 +146,21 @@ module _ (T : List ℕ) where
   -- `fn_stmt`
   unfoldable pub fnStmt : Prog
   fnStmt = do
-    name ← require Identifier 8
+    name ← require Identifier expectedFunctionName
     inFunction (name .node) (do
-      consume LeftParen 9
-      params ← parameters 11
-      consume RightParen 12
+      consume LeftParen expectParenAfterName
+      params ← parameters expectedParameter
+      consume RightParen expectParenAfterExpression
       stmts ← functionBody
       node (fnRow (name .node) (params .node) (stmts .node)))
 
   -- `fn_expr`
   unfoldable pub fnExpr : Prog
   fnExpr = do
-    consume LeftParen 13
+    consume LeftParen expectedParenAfterName
     inFunction 0 (do
-      params ← parameters 14
-      consume RightParen 12
+      params ← parameters expectParameter
+      consume RightParen expectParenAfterExpression
       stmts ← functionBody
       node (fnExprRow (params .node) (stmts .node)))
 
@@ -179,17 +181,17 @@ module _ (T : List ℕ) where
   -- `class`: its name, a superclass behind `<`, its methods
   unfoldable pub class : Prog
   class = do
-    name ← consume Identifier 5
-    superclass ← look Less (λ i. do s ← consume Identifier 5; node (varRow (s .node))) nothing
-    consume LeftCurlyBrace 6
+    name ← consume Identifier expectedVariableName
+    superclass ← look Less (λ i. do s ← consume Identifier expectedVariableName; node (varRow (s .node))) nothing
+    consume LeftCurlyBrace expectedLeftCurly
     methodsFrom fuel (λ methods statics. do
-      consume RightCurlyBrace 7
+      consume RightCurlyBrace expectedRightCurly
       node (classRow (name .node) methods statics (superclass .node))) 0 0 0 0
 
   -- `let_stmt`
   unfoldable pub letStmt : Prog
   letStmt = do
-    name ← require Identifier 5
+    name ← require Identifier expectedVariableName
     init ← look Equal (λ i. expression) nothing
     node (letRow (name .node) (init .node))
 
@@ -208,7 +210,7 @@ module _ (T : List ℕ) where
   unfoldable pub enhancedFor : ℕ → Prog
   enhancedFor keyword = do
     ids ← namesFrom fuel 0 0
-    consume In 17
+    consume In expectedIn
     collection ← expression
     stmt ← down Declaration
     node (enhancedForRow keyword (ids .node) (collection .node) (stmt .node))
@@ -217,11 +219,11 @@ module _ (T : List ℕ) where
   unfoldable pub classicFor : ℕ → Prog
   classicFor keyword = do
     init ← look Semicolon (λ i. nothing) (
-        look Let (λ i. do n ← letStmt; consume Semicolon 15; give n) (do
-          fail 16
+        look Let (λ i. do n ← letStmt; consume Semicolon expectedSemicolon; give n) (do
+          fail emptyOrLet
           nothing))
     cond ← expression
-    consume Semicolon 15
+    consume Semicolon expectedSemicolon
     inc ← expression
     stmt ← down Declaration
     leaveLoop
@@ -237,8 +239,8 @@ module _ (T : List ℕ) where
   unfoldable pub tryCatch : Prog
   tryCatch = do
     tryBody ← down Declaration
-    consume Catch 18
-    name ← require Identifier 5
+    consume Catch expectedCatch
+    name ← require Identifier expectedVariableName
     catchBody ← down Declaration
     node (tryCatchRow (tryBody .node) (name .node) (catchBody .node))
 
@@ -248,7 +250,7 @@ module _ (T : List ℕ) where
   elifsFrom (suc f) first last =
       look Elif (λ i. do
         cond ← expression
-        consume LeftCurlyBrace 6
+        consume LeftCurlyBrace expectedLeftCurly
         stmts ← block
         n ← node (elifRow (cond .node) (stmts .node))
         link last (n .node)
@@ -268,13 +270,13 @@ module _ (T : List ℕ) where
   unfoldable pub ifStmt : ℕ → Prog
   ifStmt keyword = do
     cond ← expression
-    consume LeftCurlyBrace 6
+    consume LeftCurlyBrace expectedLeftCurly
     stmts ← block
     elifs ← elifsFrom fuel 0 0
     others ← look Else (λ i. do
-      consume LeftCurlyBrace 6
+      consume LeftCurlyBrace expectedLeftCurly
       n ← elseFrom fuel 0 0
-      consume RightCurlyBrace 7
+      consume RightCurlyBrace expectedRightCurly
       give n) nothing
     node (ifRow keyword (cond .node) (stmts .node) (elifs .node) (others .node))
 
@@ -287,13 +289,13 @@ module _ (T : List ℕ) where
   -- `brk` and `cont`
   unfoldable pub brk : ℕ → Prog
   brk keyword = do
-    insideLoop nothing (failAt 19 keyword)
+    insideLoop nothing (failAt onlyInsideLoop keyword)
     node (breakRow keyword)
 
   -- `cont`
   unfoldable pub cont : ℕ → Prog
   cont keyword = do
-    insideLoop nothing (failAt 19 keyword)
+    insideLoop nothing (failAt onlyInsideLoop keyword)
     node (continueRow keyword)
 
   -- `while_stmt`
@@ -331,7 +333,7 @@ module _ (T : List ℕ) where
   unfoldable pub argumentsFrom : ℕ → ℕ → ℕ → ℕ → ℕ → Prog
   argumentsFrom mark zero n first last = spent
   argumentsFrom mark (suc f) n first last =
-      when (eqb mark RightParen && leb 255 n) (do fail 27; stop 1) (do
+      when (eqb mark RightParen && leb 255 n) (do fail maxArguments; stop fatalStop) (do
         e ← expression
         link last (e .node)
         look Comma
@@ -346,7 +348,7 @@ module _ (T : List ℕ) where
   unfoldable pub list : Prog
   list = do
     elements ← arguments RightBrace
-    brace ← require RightBrace 20
+    brace ← require RightBrace expectedEndOfList
     node (listRow (elements .node) (brace .node))
 
   -- `dict_elements`: keys and values in turn
@@ -355,7 +357,7 @@ module _ (T : List ℕ) where
   dictElementsFrom (suc f) first last =
       check RightCurlyBrace (give (plain first)) (do
         key ← expression
-        consume Colon 22
+        consume Colon expectedColonAfterKey
         value ← expression
         link last (key .node)
         link (key .node) (value .node)
@@ -365,13 +367,13 @@ module _ (T : List ℕ) where
   unfoldable pub dictionary : Prog
   dictionary = do
     elements ← dictElementsFrom fuel 0 0
-    brace ← require RightCurlyBrace 21
+    brace ← require RightCurlyBrace expectedEndOfDict
     node (dictionaryRow (elements .node) (brace .node))
 
   -- the end of `access`: its closing mark and its node
   unfoldable pub closed : Found → ℕ → ℕ → ℕ → ℕ → ℕ → ℕ → Prog
   closed object brace first firstColon second secondColon third = do
-    consume RightBrace 24
+    consume RightBrace expectedEndOfSlice
     n ← node (accessRow (object .node) brace first firstColon second secondColon third)
     give (through object (n .node))
 
@@ -415,8 +417,8 @@ module _ (T : List ℕ) where
   unfoldable pub superExpr : ℕ → Prog
   superExpr keyword =
       check LeftParen (node (superRow keyword 0)) (do
-        consume Dot 29
-        method ← require Identifier 5
+        consume Dot superOnlyForProperty
+        method ← require Identifier expectedVariableName
         node (superRow keyword (method .node)))
 
   -- `primary`
@@ -428,21 +430,21 @@ module _ (T : List ℕ) where
       look True (λ i. node (literalRow i)) (
       look Nil (λ i. node (literalRow i)) (
       look Identifier (λ i. do n ← node (varRow i); give (named i (n .node))) (
-      look LeftParen (λ i. do e ← expression; consume RightParen 12; node (groupingRow (e .node))) (
+      look LeftParen (λ i. do e ← expression; consume RightParen expectParenAfterExpression; node (groupingRow (e .node))) (
       look LeftBrace (λ i. list) (
       look LeftCurlyBrace (λ i. dictionary) (
       look Fn (λ i. fnExpr) (
       look This (λ i. node (thisRow i)) (
       look Super (λ i. superExpr i) (
       look Newline (λ i. do n ← node emptyRow; give (record { node = n .node; form = Empty; access = 0 })) (do
-        fail 28
-        stop 1)))))))))))))
+        fail undefinedExpression
+        stop fatalStop)))))))))))))
 
   -- `finish_call`
   unfoldable pub finishCall : Found → Prog
   finishCall callee = do
     args ← arguments RightParen
-    paren ← require RightParen 26
+    paren ← require RightParen expectParenAfterArguments
     node (callRow (callee .node) (paren .node) (args .node))
 
   -- `call`
@@ -451,7 +453,7 @@ module _ (T : List ℕ) where
   callFrom (suc f) e =
       look LeftParen (λ i. do n ← finishCall e; callFrom f n) (
       look Dot (λ i. do
-        name ← require Identifier 25
+        name ← require Identifier expectedPropertyName
         n ← node (getRow (e .node) (name .node))
         callFrom f (property (name .node) (e .node) (n .node))) (
       look LeftBrace (λ i. do n ← access e i; callFrom f n)
@@ -510,5 +512,5 @@ module _ (T : List ℕ) where
 
   -- with l levels left: a reading one level down; where none is left it stops with outcome 8
   unfoldable pub lower : ℕ → Which → Reader
-  lower zero w p E N = reply p (Stop 8) E N
+  lower zero w p E N = reply p (Stop tooDeep) E N
   lower (suc l) w p E N = run T (lower l) (body w) p E N

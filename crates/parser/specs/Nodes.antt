@@ -1,138 +1,139 @@
 -- The rows of the node table, all 32 kinds: tokens t and children c in the order in which the Rust struct declares them. `next` is 0 until a list goes on.
 use Prim.Native.Nat.{ℕ}
 use Rattle.records.specs.declared.Node.{Node}
+use Rattle.records.specs.Kinds.{FnExpr, VarExpr, ListExpr, DictionaryExpr, AssignExpr, AccessExpr, BinaryExpr, CallExpr, GetExpr, SetExpr, SuperExpr, GroupingExpr, LiteralExpr, LogicalExpr, ThisExpr, UnaryExpr, EmptyExpr, FnStmt, LetStmt, BlockStmt, ClassStmt, ClassicForStmt, EnhancedForStmt, WhileStmt, IfStmt, ContinueStmt, ReturnStmt, BreakStmt, TryCatchStmt, ExprStmt, ElifBranch, ParameterName}
 
 -- a row by its columns; it is in no list yet
 abbrev pub row : ℕ → ℕ → ℕ → ℕ → ℕ → ℕ → ℕ → ℕ → Node
 row kind t1 t2 t3 c1 c2 c3 c4 = record { kind = kind; token1 = t1; token2 = t2; token3 = t3; child1 = c1; child2 = c2; child3 = c3; child4 = c4; next = 0 }
 
 -- ---- expr.rs
--- kind 1, `FnExpr`: parameters and statements
+-- `FnExpr`: parameters and statements
 abbrev pub fnExprRow : ℕ → ℕ → Node
-fnExprRow params stmts = row 1 0 0 0 params stmts 0 0
+fnExprRow params stmts = row FnExpr 0 0 0 params stmts 0 0
 
--- kind 2, `VarExpr`: its name
+-- `VarExpr`: its name
 abbrev pub varRow : ℕ → Node
-varRow name = row 2 name 0 0 0 0 0 0
+varRow name = row VarExpr name 0 0 0 0 0 0
 
 -- the brace is the closing one
 abbrev pub listRow : ℕ → ℕ → Node
-listRow elements brace = row 3 brace 0 0 elements 0 0 0
+listRow elements brace = row ListExpr brace 0 0 elements 0 0 0
 
 -- keys and values in turn; the brace is the closing one
 abbrev pub dictionaryRow : ℕ → ℕ → Node
-dictionaryRow elements brace = row 4 brace 0 0 elements 0 0 0
+dictionaryRow elements brace = row DictionaryExpr brace 0 0 elements 0 0 0
 
--- kind 5, `AssignExpr`: a name, the value, and the access through which or 0
+-- `AssignExpr`: a name, the value, and the access through which or 0
 abbrev pub assignRow : ℕ → ℕ → ℕ → Node
-assignRow name value access = row 5 name 0 0 value access 0 0
+assignRow name value access = row AssignExpr name 0 0 value access 0 0
 
 -- the brace is the opening one; absent colons and expressions are 0
 abbrev pub accessRow : ℕ → ℕ → ℕ → ℕ → ℕ → ℕ → ℕ → Node
-accessRow object brace first firstColon second secondColon third = row 6 brace firstColon secondColon object first second third
+accessRow object brace first firstColon second secondColon third = row AccessExpr brace firstColon secondColon object first second third
 
--- kind 7, `BinaryExpr`: left operand, operator, right operand
+-- `BinaryExpr`: left operand, operator, right operand
 abbrev pub binaryRow : ℕ → ℕ → ℕ → Node
-binaryRow left operator right = row 7 operator 0 0 left right 0 0
+binaryRow left operator right = row BinaryExpr operator 0 0 left right 0 0
 
 -- the paren is the closing one
 abbrev pub callRow : ℕ → ℕ → ℕ → Node
-callRow callee paren arguments = row 8 paren 0 0 callee arguments 0 0
+callRow callee paren arguments = row CallExpr paren 0 0 callee arguments 0 0
 
--- kind 9, `GetExpr`: an object and a name
+-- `GetExpr`: an object and a name
 abbrev pub getRow : ℕ → ℕ → Node
-getRow object name = row 9 name 0 0 object 0 0 0
+getRow object name = row GetExpr name 0 0 object 0 0 0
 
 -- the object is the node that the Get had
 abbrev pub setRow : ℕ → ℕ → ℕ → ℕ → Node
-setRow object name value access = row 10 name 0 0 object value access 0
+setRow object name value access = row SetExpr name 0 0 object value access 0
 
 -- method 0 is the made-up `init`
 abbrev pub superRow : ℕ → ℕ → Node
-superRow keyword method = row 11 keyword method 0 0 0 0 0
+superRow keyword method = row SuperExpr keyword method 0 0 0 0 0
 
--- kind 12, `GroupingExpr`: the expression within
+-- `GroupingExpr`: the expression within
 abbrev pub groupingRow : ℕ → Node
-groupingRow expression = row 12 0 0 0 expression 0 0 0
+groupingRow expression = row GroupingExpr 0 0 0 expression 0 0 0
 
 -- the Number, String, True, False or Nil token
 abbrev pub literalRow : ℕ → Node
-literalRow token = row 13 token 0 0 0 0 0 0
+literalRow token = row LiteralExpr token 0 0 0 0 0 0
 
--- kind 14, `LogicalExpr`: left operand, operator, right operand
+-- `LogicalExpr`: left operand, operator, right operand
 abbrev pub logicalRow : ℕ → ℕ → ℕ → Node
-logicalRow left operator right = row 14 operator 0 0 left right 0 0
+logicalRow left operator right = row LogicalExpr operator 0 0 left right 0 0
 
--- kind 15, `ThisExpr`: its keyword
+-- `ThisExpr`: its keyword
 abbrev pub thisRow : ℕ → Node
-thisRow keyword = row 15 keyword 0 0 0 0 0 0
+thisRow keyword = row ThisExpr keyword 0 0 0 0 0 0
 
--- kind 16, `UnaryExpr`: operator and operand
+-- `UnaryExpr`: operator and operand
 abbrev pub unaryRow : ℕ → ℕ → Node
-unaryRow operator right = row 16 operator 0 0 right 0 0 0
+unaryRow operator right = row UnaryExpr operator 0 0 right 0 0 0
 
--- kind 17, `Empty`
+-- `Empty`
 abbrev pub emptyRow : Node
-emptyRow = row 17 0 0 0 0 0 0 0
+emptyRow = row EmptyExpr 0 0 0 0 0 0 0
 
 -- ---- stmt.rs
--- kind 18, `FnStmt`: name, parameters, statements
+-- `FnStmt`: name, parameters, statements
 abbrev pub fnRow : ℕ → ℕ → ℕ → Node
-fnRow name params stmts = row 18 name 0 0 params stmts 0 0
+fnRow name params stmts = row FnStmt name 0 0 params stmts 0 0
 
--- kind 19, `LetStmt`: name, and its value or 0
+-- `LetStmt`: name, and its value or 0
 abbrev pub letRow : ℕ → ℕ → Node
-letRow name initializer = row 19 name 0 0 initializer 0 0 0
+letRow name initializer = row LetStmt name 0 0 initializer 0 0 0
 
--- kind 20, `BlockStmt`: its statements
+-- `BlockStmt`: its statements
 abbrev pub blockRow : ℕ → Node
-blockRow stmts = row 20 0 0 0 stmts 0 0 0
+blockRow stmts = row BlockStmt 0 0 0 stmts 0 0 0
 
--- kind 21, `ClassStmt`: name, methods, static methods, and the superclass or 0
+-- `ClassStmt`: name, methods, static methods, and the superclass or 0
 abbrev pub classRow : ℕ → ℕ → ℕ → ℕ → Node
-classRow name methods staticMethods superclass = row 21 name 0 0 methods staticMethods superclass 0
+classRow name methods staticMethods superclass = row ClassStmt name 0 0 methods staticMethods superclass 0
 
--- kind 22, `ClassicForStmt`: keyword, initializer or 0, condition, increment, body
+-- `ClassicForStmt`: keyword, initializer or 0, condition, increment, body
 abbrev pub classicForRow : ℕ → ℕ → ℕ → ℕ → ℕ → Node
-classicForRow keyword initializer condition increment stmt = row 22 keyword 0 0 initializer condition increment stmt
+classicForRow keyword initializer condition increment stmt = row ClassicForStmt keyword 0 0 initializer condition increment stmt
 
--- kind 23, `EnhancedForStmt`: keyword, names, collection, body
+-- `EnhancedForStmt`: keyword, names, collection, body
 abbrev pub enhancedForRow : ℕ → ℕ → ℕ → ℕ → Node
-enhancedForRow keyword identifiers collection stmt = row 23 keyword 0 0 identifiers collection stmt 0
+enhancedForRow keyword identifiers collection stmt = row EnhancedForStmt keyword 0 0 identifiers collection stmt 0
 
--- kind 24, `WhileStmt`: keyword, condition, body
+-- `WhileStmt`: keyword, condition, body
 abbrev pub whileRow : ℕ → ℕ → ℕ → Node
-whileRow keyword condition stmt = row 24 keyword 0 0 condition stmt 0 0
+whileRow keyword condition stmt = row WhileStmt keyword 0 0 condition stmt 0 0
 
--- kind 25, `IfStmt`: keyword, condition, statements, elif branches, else statements
+-- `IfStmt`: keyword, condition, statements, elif branches, else statements
 abbrev pub ifRow : ℕ → ℕ → ℕ → ℕ → ℕ → Node
-ifRow keyword condition thenBranch elifs elseBranch = row 25 keyword 0 0 condition thenBranch elifs elseBranch
+ifRow keyword condition thenBranch elifs elseBranch = row IfStmt keyword 0 0 condition thenBranch elifs elseBranch
 
--- kind 26, `ContinueStmt`: its keyword
+-- `ContinueStmt`: its keyword
 abbrev pub continueRow : ℕ → Node
-continueRow keyword = row 26 keyword 0 0 0 0 0 0
+continueRow keyword = row ContinueStmt keyword 0 0 0 0 0 0
 
--- kind 27, `ReturnStmt`: keyword, and its value or 0
+-- `ReturnStmt`: keyword, and its value or 0
 abbrev pub returnRow : ℕ → ℕ → Node
-returnRow keyword value = row 27 keyword 0 0 value 0 0 0
+returnRow keyword value = row ReturnStmt keyword 0 0 value 0 0 0
 
--- kind 28, `BreakStmt`: its keyword
+-- `BreakStmt`: its keyword
 abbrev pub breakRow : ℕ → Node
-breakRow keyword = row 28 keyword 0 0 0 0 0 0
+breakRow keyword = row BreakStmt keyword 0 0 0 0 0 0
 
--- kind 29, `TryCatchStmt`: the body tried, the name, the body of catch
+-- `TryCatchStmt`: the body tried, the name, the body of catch
 abbrev pub tryCatchRow : ℕ → ℕ → ℕ → Node
-tryCatchRow tryBody name catchBody = row 29 name 0 0 tryBody catchBody 0 0
+tryCatchRow tryBody name catchBody = row TryCatchStmt name 0 0 tryBody catchBody 0 0
 
 -- last is 0 exactly if the expression is Empty
 abbrev pub exprRow : ℕ → ℕ → Node
-exprRow last expression = row 30 last 0 0 expression 0 0 0
+exprRow last expression = row ExprStmt last 0 0 expression 0 0 0
 
 -- ---- an elif branch; a parameter or loop name
--- kind 31, an elif branch: condition and statements
+-- an elif branch: condition and statements
 abbrev pub elifRow : ℕ → ℕ → Node
-elifRow condition thenBranch = row 31 0 0 0 condition thenBranch 0 0
+elifRow condition thenBranch = row ElifBranch 0 0 0 condition thenBranch 0 0
 
--- kind 32, a parameter or loop name
+-- a parameter or loop name
 abbrev pub nameRow : ℕ → Node
-nameRow name = row 32 name 0 0 0 0 0 0
+nameRow name = row ParameterName name 0 0 0 0 0 0

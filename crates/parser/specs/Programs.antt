@@ -3,6 +3,7 @@ use Prim.Native.Nat.{ℕ, _+_, _-_}
 use mathlib.Core.Bool.{Bool, true, false}
 use mathlib.Core.List.{List}
 use lib.Dec.{ltb, eqb}
+use Rattle.token.specs.Kind.{EOF}
 use Rattle.records.specs.Table.{linked}
 use Rattle.records.specs.declared.Node as rows
 use Rattle.parser.specs.declared.State.{State}
@@ -77,7 +78,7 @@ run T low (m >>= k) p E N = andThen (run T low m p E N) λ f q E N. run T low (k
 run T low (m >> k) p E N = andThen (run T low m p E N) λ f q E N. run T low k q E N
 run T low (look kind found missing) p E N = ifSeen (matchesAt T (p .current) kind) (λ i. run T low (found i) (moved p i) E N) λ _. run T low missing p E N
 run T low (check kind found missing) p E N = ifSeen (checkAt T (p .current) kind) (λ i. run T low found (moved p i) E N) λ _. run T low missing p E N
-run T low (atEnd found missing) p E N = either (eqb (kindAt T (p .current)) 0) (λ _. run T low found p E N) λ _. run T low missing p E N
+run T low (atEnd found missing) p E N = either (eqb (kindAt T (p .current)) EOF) (λ _. run T low found p E N) λ _. run T low missing p E N
 run T low previous p E N = reply p (Node (plain (p .current))) E N
 run T low (node d) p E N = pushNode d p E N
 run T low (link prev next) p E N = reply p (Node (plain 0)) E (linked N prev next)

@@ -3,6 +3,7 @@ use Prim.Native.Nat.{ℕ, _+_}
 use mathlib.Core.Bool.{true, false}
 use mathlib.Core.List.{List}
 use lib.Dec.{ltb}
+use Rattle.records.specs.Outcomes.{fatalStop, noErrorRoom, noNodeRoom}
 use Rattle.records.specs.Table.{room, put, errorWidth, nodeWidth}
 use Rattle.records.specs.Words.{errorWords, nodeWords}
 use Rattle.records.specs.declared.Node as rows
@@ -66,11 +67,11 @@ errorMade e p E N = reply (withError p) (Node (plain 0)) (put errorWidth E (p .e
 
 -- one more node; outcome 7 where it finds no room
 unfoldable pub pushNode : rows.Node → State → List ℕ → List ℕ → Reply
-pushNode d p E N = elim (ltb (p .nodes) (room nodeWidth N)) [ true ↦ nodeMade d p E N | false ↦ reply p (Stop 7) E N ]
+pushNode d p E N = elim (ltb (p .nodes) (room nodeWidth N)) [ true ↦ nodeMade d p E N | false ↦ reply p (Stop noNodeRoom) E N ]
 
 -- one more error, about token i; outcome 6 where it finds no room
 unfoldable pub pushError : List ℕ → ℕ → ℕ → State → List ℕ → List ℕ → Reply
-pushError T message i p E N = elim (ltb (p .errors) (room errorWidth E)) [ true ↦ errorMade (errorAt T message i) p E N | false ↦ reply p (Stop 6) E N ]
+pushError T message i p E N = elim (ltb (p .errors) (room errorWidth E)) [ true ↦ errorMade (errorAt T message i) p E N | false ↦ reply p (Stop noErrorRoom) E N ]
 
 -- by whether a token was found
 abbrev pub ifSeen : Seen → (ℕ → Reply) → (Unit {0} → Reply) → Reply
@@ -92,4 +93,4 @@ consumeAt T kind message p E N =
 unfoldable pub requireAt : List ℕ → ℕ → ℕ → State → List ℕ → List ℕ → Reply
 requireAt T kind message p E N =
     ifSeen (matchesAt T (p .current) kind) (λ i. reply (moved p i) (Node (plain i)) E N) λ _.
-    andThen (pushError T message (p .current) p E N) λ f q E N. reply q (Stop 1) E N
+    andThen (pushError T message (p .current) p E N) λ f q E N. reply q (Stop fatalStop) E N

@@ -3,7 +3,9 @@ use Prim.Native.Nat.{ℕ, zero, suc, _+_, _-_}
 use mathlib.Core.Bool.{Bool, true, false}
 use mathlib.Core.List.{List, [], _∷_}
 use lib.Dec.{eqb}
+use Rattle.token.specs.Kind.{EOF, Newline}
 use Rattle.records.specs.Table.{room, field, tokenWidth}
+use Rattle.parser.specs.declared.Coming.{Coming}
 use Rattle.parser.specs.declared.Seen.{Seen}
 use Rattle.parser.specs.declared.Seen.the-variants.{At, Nothing}
 
@@ -21,16 +23,20 @@ lineAt T i = field tokenWidth 3 T i
 
 -- the token behind token i; there is none behind EOF
 unfoldable pub after : List ℕ → ℕ → ℕ
-after T i = elim (eqb (kindAt T i) 0) [ true ↦ i | false ↦ i + 1 ]
+after T i = elim (eqb (kindAt T i) EOF) [ true ↦ i | false ↦ i + 1 ]
 
 -- the first of the next n tokens that is no Newline
 unfoldable pub skipFrom : ℕ → List ℕ → ℕ → ℕ
 skipFrom zero T i = i
-skipFrom (suc n) T i = elim (eqb (kindAt T i) 1) [ true ↦ skipFrom n T (i + 1) | false ↦ i ]
+skipFrom (suc n) T i = elim (eqb (kindAt T i) Newline) [ true ↦ skipFrom n T (i + 1) | false ↦ i ]
 
 -- past the newlines
 unfoldable pub skipLines : List ℕ → ℕ → ℕ
 skipLines T i = skipFrom (count T - i) T i
+
+-- the next token that is no Newline: its kind, and the token behind it
+abbrev pub peekAt : List ℕ → ℕ → Coming
+peekAt T i = record { kind = kindAt T (skipLines T i); past = after T (skipLines T i) }
 
 -- found at i where the test holds, else nothing
 unfoldable pub seenIf : Bool → ℕ → Seen
@@ -40,8 +46,8 @@ seenIf false i = Nothing
 -- `check`: for any kind but Newline it first passes newlines, and goes back if it fails
 unfoldable pub checkAt : List ℕ → ℕ → ℕ → Seen
 checkAt T i kind =
-    elim (eqb kind 1) [
-      | true ↦ seenIf (eqb (kindAt T i) 1) i
+    elim (eqb kind Newline) [
+      | true ↦ seenIf (eqb (kindAt T i) Newline) i
       | false ↦ seenIf (eqb (kindAt T (skipLines T i)) kind) (skipLines T i)
     ]
 

@@ -4,7 +4,9 @@ use mathlib.Core.Bool.{Bool, true, false}
 use mathlib.Core.Path.{_≡_}
 use mathlib.Core.List.{List}
 use lib.Dec.{eqb}
-use Rattle.token.specs.Kind.{Newline}
+use Rattle.token.specs.Kind.{EOF, Newline}
+use Rattle.records.specs.Messages.{expectedNewLine}
+use Rattle.records.specs.Outcomes.{ended, outOfFuel}
 use Rattle.records.specs.Table.{linked, zeroed, nodeWidth}
 use Rattle.parser.specs.declared.State.{State}
 use Rattle.parser.specs.declared.Got.the-variants.{Node, Stop}
@@ -27,9 +29,13 @@ pub record Parsed : Type 0 where
 abbrev pub ends : ℕ → ℕ → ℕ → ℕ → List ℕ → List ℕ → Parsed
 ends outcome first kept errors E N = record { outcome = outcome; errorCount = errors; nodeCount = kept; first = first; errors = E; nodes = zeroed nodeWidth N kept }
 
+-- how many levels may be open
+abbrev pub deepest : ℕ
+deepest = 128
+
 -- a top-level statement, finished after its newline test; `declaration(true)`
 unfoldable pub topLevel : List ℕ → Reader
-topLevel T p E N = andThen (lower T 128 Declaration p E N) λ f q E N. andThen (consumeAt T Newline 4 q E N) λ g r E N. reply r (Node f) E N
+topLevel T p E N = andThen (lower T deepest Declaration p E N) λ f q E N. andThen (consumeAt T Newline expectedNewLine q E N) λ g r E N. reply r (Node f) E N
 
 -- a statement that stops the reading leaves none of its nodes; its errors are kept
 abbrev pub orEnds : ℕ → ℕ → Reply → (ℕ → State → List ℕ → List ℕ → Parsed) → Parsed
@@ -43,9 +49,9 @@ ifEnd false a b = b tt
 
 -- `while !self.is_at_end()`
 unfoldable pub statements : ℕ → List ℕ → ℕ → ℕ → State → List ℕ → List ℕ → Parsed
-statements zero T first last p E N = ends 99 first (p .nodes) (p .errors) E N
+statements zero T first last p E N = ends outOfFuel first (p .nodes) (p .errors) E N
 statements (suc f) T first last p E N =
-    ifEnd (eqb (kindAt T (p .current)) 0) (λ _. ends 0 first (p .nodes) (p .errors) E N) λ _.
+    ifEnd (eqb (kindAt T (p .current)) EOF) (λ _. ends ended first (p .nodes) (p .errors) E N) λ _.
     orEnds first (p .nodes) (topLevel T p E N) λ n q E N. statements f T (firstOf first n) n q E (linked N last n)
 
 -- the parsing of a token table, with so many errors recorded before

@@ -4,7 +4,8 @@ ghost use mathlib.Core.List.{List};
 ghost use mathlib.Core.Bool.{not};
 ghost use Prim.Native.Nat.{ℕ, _-_};
 ghost use lib.Dec.{eqb};
-ghost use Rattle.parser.specs.Tokens.{kindAt, lineAt, after, skipLines, checkAt, matchesAt};
+ghost use Rattle.token.specs.Kind.{EOF};
+ghost use Rattle.parser.specs.Tokens.{kindAt, lineAt, after, skipLines, peekAt, checkAt, matchesAt};
 ghost use Rattle.parser.specs.Tables.{Reply, reply, moved, looped, withNodes, withErrors, freshState, errorAt, pushNode, pushError, plain, consumeAt, requireAt};
 ghost use Rattle.parser.specs.Programs.{raised};
 ghost use Rattle.parser.specs.Grammar.{firstOf};
@@ -53,6 +54,12 @@ pub enum Seen {
     Nothing,
 }
 
+// The next token that is no Newline: its kind, and the token past it.
+pub struct Coming {
+    pub kind: u32,
+    pub past: u32,
+}
+
 // ---- looking at tokens. Past the table's end every kind is EOF's.
 
 pub fn kind_at(tokens: &[u32], i: u32) -> u32
@@ -78,7 +85,7 @@ pub fn next(tokens: &[u32], i: u32) -> u32
 }
 
 // The first token at or behind start that is no Newline.
-pub fn skip(tokens: &[u32], start: u32) -> u32
+fn skip(tokens: &[u32], start: u32) -> u32
     ensures { λ r. ⌜ r ≡ skipLines (now (tokens .entry)) start ⌝ }
 {
     let mut i = start;
@@ -86,6 +93,16 @@ pub fn skip(tokens: &[u32], start: u32) -> u32
         i += 1;
     }
     i
+}
+
+// What comes past the newlines, for a reader that tests it for many kinds. Only this function and `check` pass newlines.
+pub fn peek(tokens: &[u32], at: u32) -> Coming
+    ensures { λ r. ⌜ r ≡ peekAt (now (tokens .entry)) at ⌝ }
+{
+    let i = skip(tokens, at);
+    let kind = kind_at(tokens, i);
+    let past = next(tokens, i);
+    Coming { kind, past }
 }
 
 // `check`: for any kind but Newline it passes newlines. Where it finds the token the cursor stays on it; else the caller keeps its own.
@@ -120,7 +137,7 @@ pub fn matches(tokens: &[u32], at: u32, kind: u32) -> Seen
 
 // `is_at_end`: it passes no newlines.
 pub fn is_at_end(tokens: &[u32], p: State) -> bool
-    ensures { λ r. ⌜ r ≡ eqb (kindAt (now (tokens .entry)) (p .current)) 0 ⌝ }
+    ensures { λ r. ⌜ r ≡ eqb (kindAt (now (tokens .entry)) (p .current)) EOF ⌝ }
 {
     let at = p.current;
     kind_at(tokens, at) == Token::EOF

@@ -6,9 +6,10 @@ use Prim.Native.Nat.{ℕ}
 use lib.Dec.{eqb}
 use borrow.Author.Tests.{ne-eqb, eqb-true, eqb-false}
 use Rattle.parser.specs.declared.State.{State}
+use Rattle.parser.specs.declared.Coming.{Coming}
 use Rattle.parser.specs.declared.Seen.{Seen}
 use Rattle.parser.specs.declared.Seen.the-variants.{At, Nothing}
-use Rattle.parser.specs.Tokens.{kindAt, after, skipLines, checkAt, matchesAt}
+use Rattle.parser.specs.Tokens.{kindAt, after, skipLines, peekAt, checkAt, matchesAt}
 use Rattle.parser.specs.Tables.{Reply, moved, ifSeen}
 use Rattle.parser.specs.Programs.{Which, Reader, Prog, look, run}
 use Rattle.pieces.specs.Pieces.{among}
@@ -20,9 +21,9 @@ pub record Next (T : List ℕ) (at kind j : ℕ) : Type 0 where
   pub its : kindAt T (skipLines T at) ≡ kind
   pub behind : after T (skipLines T at) ≡ j
 
--- as the code finds them
-pub next-is : (T : List ℕ) (at i kind j : ℕ) → i ≡ skipLines T at → kind ≡ kindAt T i → j ≡ after T i → Next T at kind j
-next-is T at i kind j a b c = record { its = ap (kindAt T) (sym a) ∙ sym b; behind = ap (after T) (sym a) ∙ sym c }
+-- as `peek` finds it
+pub peeked : (T : List ℕ) (at : ℕ) (r : Coming) → r ≡ peekAt T at → Next T at (r .kind) (r .past)
+peeked T at r e = record { its = sym (ap (λ (c : Coming). c .kind) e); behind = sym (ap (λ (c : Coming). c .past) e) }
 
 -- what `matches` makes of what `check` sees
 abbrev pub passed : List ℕ → Seen → Seen

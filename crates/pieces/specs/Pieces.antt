@@ -5,6 +5,7 @@ use mathlib.Core.List.{List, [], _∷_}
 use lib.Dec.{eqb}
 use lib.ListN.{drop}
 use Rattle.token.specs.Kind.{RightParen, RightBrace, LeftCurlyBrace, RightCurlyBrace, Semicolon, Less, Else, Identifier, Number, String, False, True, Nil}
+use Rattle.records.specs.Messages.{expectedVariableName, expectedRightCurly, expectParenAfterExpression, expectedSemicolon, onlyInsideLoop, expectedEndOfList, expectedEndOfDict, expectedPropertyName, expectParenAfterArguments}
 use Rattle.parser.specs.declared.Found.{Found}
 use Rattle.parser.specs.declared.Form.the-variants.{Empty}
 use Rattle.parser.specs.Tables.{plain}
@@ -18,18 +19,18 @@ runAt T l P = run T (lower T l) P
 
 -- the superclass, if `<` follows
 abbrev pub superclass : Prog
-superclass = look Less (λ i. do s ← consume Identifier 5; node (varRow (s .node))) nothing
+superclass = look Less (λ i. do s ← consume Identifier expectedVariableName; node (varRow (s .node))) nothing
 
 -- a class behind its methods
 abbrev pub endClass : ℕ → ℕ → ℕ → ℕ → Prog
 endClass name sup methods statics = do
-  consume RightCurlyBrace 7
+  consume RightCurlyBrace expectedRightCurly
   node (classRow name methods statics sup)
 
 -- `brk` and `cont`: they differ in the node's kind
 abbrev pub jump : ℕ → ℕ → Prog
 jump kind keyword = do
-  insideLoop nothing (failAt 19 keyword)
+  insideLoop nothing (failAt onlyInsideLoop keyword)
   node (row kind keyword 0 0 0 0 0 0)
 
 -- a name, which may stand left of `=`
@@ -47,31 +48,31 @@ empty = do
 -- a grouping behind its expression
 abbrev pub grouping : ℕ → Prog
 grouping e = do
-  consume RightParen 12
+  consume RightParen expectParenAfterExpression
   node (groupingRow e)
 
 -- a list behind its elements
 abbrev pub listEnd : Found → Prog
 listEnd elements = do
-  brace ← require RightBrace 20
+  brace ← require RightBrace expectedEndOfList
   node (listRow (elements .node) (brace .node))
 
 -- a dictionary behind its elements
 abbrev pub dictionaryEnd : Found → Prog
 dictionaryEnd elements = do
-  brace ← require RightCurlyBrace 21
+  brace ← require RightCurlyBrace expectedEndOfDict
   node (dictionaryRow (elements .node) (brace .node))
 
 -- a call behind its arguments
 abbrev pub callEnd : ℕ → Found → Prog
 callEnd callee args = do
-  paren ← require RightParen 26
+  paren ← require RightParen expectParenAfterArguments
   node (callRow callee (paren .node) (args .node))
 
 -- a property behind its dot
 abbrev pub get : ℕ → Prog
 get object = do
-  name ← require Identifier 25
+  name ← require Identifier expectedPropertyName
   n ← node (getRow object (name .node))
   give (property (name .node) object (n .node))
 
@@ -94,7 +95,7 @@ module _ (T : List ℕ) where
   abbrev pub func : ℕ → ℕ → ℕ → Prog
   func kind name message = do
     params ← parameters T message
-    consume RightParen 12
+    consume RightParen expectParenAfterExpression
     stmts ← functionBody T
     node (row kind name 0 0 (params .node) (stmts .node) 0 0)
 
@@ -102,7 +103,7 @@ module _ (T : List ℕ) where
   abbrev pub classic : ℕ → ℕ → Prog
   classic keyword init = do
     cond ← expression
-    consume Semicolon 15
+    consume Semicolon expectedSemicolon
     inc ← expression
     stmt ← down Declaration
     leaveLoop

@@ -17,6 +17,7 @@ use parser::Out;
 use parser::Seen;
 use parser::State;
 use records::Node;
+use records::Outcome;
 use token::Token;
 
 // A row of the node table; `next` is 0 until a list goes on.
@@ -94,7 +95,7 @@ pub fn fatal(tokens: &[u32], errors: &mut [u32], p: State, message: u32, token: 
         return g;
     };
     let q = g.p;
-    parser::stopped(q, 1)
+    parser::stopped(q, Outcome::FATAL_STOP)
 }
 
 // Parameters up to what is no comma; the 257th is message 10.
@@ -126,7 +127,7 @@ pub fn parameters(
             return g;
         };
         let q = g.p;
-        let h = parser::make(nodes, q, row(32, i.node, 0, 0, 0, 0, 0, 0));
+        let h = parser::make(nodes, q, row(Node::NAME, i.node, 0, 0, 0, 0, 0, 0));
         let k = h.got;
         let Got::Node(d) = k else {
             return h;
@@ -156,7 +157,7 @@ pub fn expression_stmt(nodes: &mut [u32], expression: Out) -> Out
     let f = e.form;
     let at = q.current;
     let last = last_of(f, at);
-    parser::make(nodes, q, row(30, last, 0, 0, e.node, 0, 0, 0))
+    parser::make(nodes, q, row(Node::EXPR, last, 0, 0, e.node, 0, 0, 0))
 }
 
 // The node of a function, behind what its body gave.
@@ -185,7 +186,7 @@ pub fn superclass(tokens: &[u32], errors: &mut [u32], nodes: &mut [u32], p: Stat
         return g;
     };
     let q = g.p;
-    parser::make(nodes, q, row(2, c.node, 0, 0, 0, 0, 0, 0))
+    parser::make(nodes, q, row(Node::VAR, c.node, 0, 0, 0, 0, 0, 0))
 }
 
 pub fn end_class(
@@ -206,7 +207,11 @@ pub fn end_class(
         return c;
     };
     let q = c.p;
-    parser::make(nodes, q, row(21, name, 0, 0, methods, statics, sup, 0))
+    parser::make(
+        nodes,
+        q,
+        row(Node::CLASS, name, 0, 0, methods, statics, sup, 0),
+    )
 }
 
 // The names of an enhanced for; commas between them may be missing.
@@ -221,7 +226,7 @@ pub fn names(tokens: &[u32], nodes: &mut [u32], p: State) -> Out
         let Seen::At(i) = parser::matches(tokens, at, Token::IDENTIFIER) else {
             return parser::gives(s, first);
         };
-        let g = parser::make(nodes, s.at_token(i), row(32, i, 0, 0, 0, 0, 0, 0));
+        let g = parser::make(nodes, s.at_token(i), row(Node::NAME, i, 0, 0, 0, 0, 0, 0));
         let k = g.got;
         let Got::Node(n) = k else {
             return g;
@@ -254,7 +259,11 @@ pub fn if_node(
         return others;
     };
     let q = others.p;
-    parser::make(nodes, q, row(25, keyword, 0, 0, cond, stmts, elifs, o.node))
+    parser::make(
+        nodes,
+        q,
+        row(Node::IF, keyword, 0, 0, cond, stmts, elifs, o.node),
+    )
 }
 
 // `brk` and `cont`: they differ in the node's kind.
@@ -302,7 +311,7 @@ pub fn list(tokens: &[u32], errors: &mut [u32], nodes: &mut [u32], elements: Out
         return h;
     };
     let q = h.p;
-    parser::make(nodes, q, row(3, t.node, 0, 0, e.node, 0, 0, 0))
+    parser::make(nodes, q, row(Node::LIST, t.node, 0, 0, e.node, 0, 0, 0))
 }
 
 // `dictionary`, behind its elements.
@@ -320,7 +329,11 @@ pub fn dictionary(tokens: &[u32], errors: &mut [u32], nodes: &mut [u32], element
         return h;
     };
     let q = h.p;
-    parser::make(nodes, q, row(4, t.node, 0, 0, e.node, 0, 0, 0))
+    parser::make(
+        nodes,
+        q,
+        row(Node::DICTIONARY, t.node, 0, 0, e.node, 0, 0, 0),
+    )
 }
 
 // The closing mark and the node of an access.
@@ -348,7 +361,7 @@ pub fn close_access(
     let g = parser::make(
         nodes,
         q,
-        row(6, brace, c, d, object.node, first, second, third),
+        row(Node::ACCESS, brace, c, d, object.node, first, second, third),
     );
     let k = g.got;
     let Got::Node(n) = k else {
@@ -405,7 +418,11 @@ pub fn super_expr(
 {
     let at = p.current;
     if let Seen::At(i) = parser::check(tokens, at, Token::LEFT_PAREN) {
-        return parser::make(nodes, p.at_token(i), row(11, keyword, 0, 0, 0, 0, 0, 0));
+        return parser::make(
+            nodes,
+            p.at_token(i),
+            row(Node::SUPER, keyword, 0, 0, 0, 0, 0, 0),
+        );
     }
     let h = parser::consume(tokens, errors, p, Token::DOT, 29);
     let k = h.got;
@@ -419,7 +436,7 @@ pub fn super_expr(
         return g;
     };
     let q = g.p;
-    parser::make(nodes, q, row(11, keyword, m.node, 0, 0, 0, 0, 0))
+    parser::make(nodes, q, row(Node::SUPER, keyword, m.node, 0, 0, 0, 0, 0))
 }
 
 // A grouping, behind its expression.
@@ -432,14 +449,14 @@ pub fn grouping(tokens: &[u32], errors: &mut [u32], nodes: &mut [u32], p: State,
         return h;
     };
     let q = h.p;
-    parser::make(nodes, q, row(12, 0, 0, 0, e, 0, 0, 0))
+    parser::make(nodes, q, row(Node::GROUPING, 0, 0, 0, e, 0, 0, 0))
 }
 
 // The node of a name, which may stand left of `=`.
 pub fn variable(nodes: &mut [u32], p: State, token: u32) -> Out
     ensures { λ r. ⌜ ((T : List ℕ) (low : Which → Reader) (E : List ℕ) → reply (r .p) (r .got) E (now (nodes .exit)) ≡ run T low (pieces.variable token) p E (now (nodes .entry))) ⌝ }
 {
-    let g = parser::make(nodes, p, row(2, token, 0, 0, 0, 0, 0, 0));
+    let g = parser::make(nodes, p, row(Node::VAR, token, 0, 0, 0, 0, 0, 0));
     let k = g.got;
     let Got::Node(n) = k else {
         return g;
@@ -451,7 +468,7 @@ pub fn variable(nodes: &mut [u32], p: State, token: u32) -> Out
 pub fn empty(nodes: &mut [u32], p: State) -> Out
     ensures { λ r. ⌜ ((T : List ℕ) (low : Which → Reader) (E : List ℕ) → reply (r .p) (r .got) E (now (nodes .exit)) ≡ run T low (pieces.empty) p E (now (nodes .entry))) ⌝ }
 {
-    let g = parser::make(nodes, p, row(17, 0, 0, 0, 0, 0, 0, 0));
+    let g = parser::make(nodes, p, row(Node::EMPTY, 0, 0, 0, 0, 0, 0, 0));
     let k = g.got;
     let Got::Node(n) = k else {
         return g;
@@ -490,7 +507,11 @@ pub fn finish_call(
         return h;
     };
     let q = h.p;
-    parser::make(nodes, q, row(8, t.node, 0, 0, callee, e.node, 0, 0))
+    parser::make(
+        nodes,
+        q,
+        row(Node::CALL, t.node, 0, 0, callee, e.node, 0, 0),
+    )
 }
 
 // A property, behind its dot.
@@ -503,7 +524,7 @@ pub fn get(tokens: &[u32], errors: &mut [u32], nodes: &mut [u32], p: State, obje
         return g;
     };
     let q = g.p;
-    let h = parser::make(nodes, q, row(9, name.node, 0, 0, object, 0, 0, 0));
+    let h = parser::make(nodes, q, row(Node::GET, name.node, 0, 0, object, 0, 0, 0));
     let k = h.got;
     let Got::Node(n) = k else {
         return h;
@@ -540,9 +561,9 @@ pub fn operation(rank: u32, left: u32, operator: u32, right: u32) -> Node
     ensures { λ r. ⌜ r ≡ rowIf (leb rank 2) (rows.logicalRow left operator right) (rows.binaryRow left operator right) ⌝ }
 {
     if rank <= 2 {
-        row(14, operator, 0, 0, left, right, 0, 0)
+        row(Node::LOGICAL, operator, 0, 0, left, right, 0, 0)
     } else {
-        row(7, operator, 0, 0, left, right, 0, 0)
+        row(Node::BINARY, operator, 0, 0, left, right, 0, 0)
     }
 }
 
@@ -560,8 +581,16 @@ pub fn assigned(
 {
     let f = left.form;
     match f {
-        Form::Name(t) => parser::make(nodes, p, row(5, t, 0, 0, value, left.access, 0, 0)),
-        Form::Property(t, o) => parser::make(nodes, p, row(10, t, 0, 0, o, value, left.access, 0)),
+        Form::Name(t) => parser::make(
+            nodes,
+            p,
+            row(Node::ASSIGN, t, 0, 0, value, left.access, 0, 0),
+        ),
+        Form::Property(t, o) => parser::make(
+            nodes,
+            p,
+            row(Node::SET, t, 0, 0, o, value, left.access, 0),
+        ),
         Form::Other => fatal(tokens, errors, p, 23, before(equal)),
         Form::Empty => fatal(tokens, errors, p, 23, before(equal)),
     }

@@ -1,3 +1,6 @@
 pub mod Table
 pub mod Words
 pub mod Rows
+pub mod Kinds
+pub mod Messages
+pub mod Outcomes

@@ -42,6 +42,130 @@ pub struct Node {
     pub next: u32,
 }
 
+// A node's kind: the `Expr` enum in its order, 1 to 17, the `Stmt` enum in its order, 18 to 30, an elif branch, a parameter or loop name. `Kinds` of specs/ has the same for definitions.
+impl Node {
+    pub const FN_EXPR: u32 = 1;
+
+    pub const VAR: u32 = 2;
+
+    pub const LIST: u32 = 3;
+
+    pub const DICTIONARY: u32 = 4;
+
+    pub const ASSIGN: u32 = 5;
+
+    pub const ACCESS: u32 = 6;
+
+    pub const BINARY: u32 = 7;
+
+    pub const CALL: u32 = 8;
+
+    pub const GET: u32 = 9;
+
+    pub const SET: u32 = 10;
+
+    pub const SUPER: u32 = 11;
+
+    pub const GROUPING: u32 = 12;
+
+    pub const LITERAL: u32 = 13;
+
+    pub const LOGICAL: u32 = 14;
+
+    pub const THIS: u32 = 15;
+
+    pub const UNARY: u32 = 16;
+
+    pub const EMPTY: u32 = 17;
+
+    pub const FN: u32 = 18;
+
+    pub const LET: u32 = 19;
+
+    pub const BLOCK: u32 = 20;
+
+    pub const CLASS: u32 = 21;
+
+    pub const CLASSIC_FOR: u32 = 22;
+
+    pub const ENHANCED_FOR: u32 = 23;
+
+    pub const WHILE: u32 = 24;
+
+    pub const IF: u32 = 25;
+
+    pub const CONTINUE: u32 = 26;
+
+    pub const RETURN: u32 = 27;
+
+    pub const BREAK: u32 = 28;
+
+    pub const TRY_CATCH: u32 = 29;
+
+    pub const EXPR: u32 = 30;
+
+    pub const ELIF: u32 = 31;
+
+    pub const NAME: u32 = 32;
+}
+
+// The outcomes of document 01, named here once: the numbers of specs/Outcomes.antt.
+pub struct Outcome {
+    pub number: u32,
+}
+
+impl Outcome {
+    // The end was reached.
+    pub const ENDED: u32 = 0;
+
+    pub const FATAL_STOP: u32 = 1;
+
+    // A number with a point runs to the last byte.
+    pub const NUMBER_AT_END: u32 = 2;
+
+    pub const NOT_TEXT: u32 = 3;
+
+    // Over 65,535 bytes.
+    pub const TOO_LONG: u32 = 4;
+
+    pub const NO_TOKEN_ROOM: u32 = 5;
+
+    pub const NO_ERROR_ROOM: u32 = 6;
+
+    pub const NO_NODE_ROOM: u32 = 7;
+
+    // A level over 128 would open.
+    pub const TOO_DEEP: u32 = 8;
+
+    // Decoding: no string stands there.
+    pub const NOT_A_STRING: u32 = 9;
+
+    // Decoding: the buffer is too short.
+    pub const NO_BUFFER_ROOM: u32 = 10;
+
+    // The pair: what the parser holds doesn't fit what is lent.
+    pub const DOES_NOT_FIT: u32 = 18;
+
+    // The pair: a token before EOF is left to be read.
+    pub const GOES_ON: u32 = 19;
+}
+
+// The lexer's messages. specs/Messages.antt names all, for definitions; the readers' code has their numbers, which its contracts hold against those names.
+pub struct Message {
+    pub number: u32,
+}
+
+impl Message {
+    // '!' cannot be used here
+    pub const LONE_BANG: u32 = 1;
+
+    // Illegal character
+    pub const ILLEGAL_CHARACTER: u32 = 2;
+
+    // Closing " was expected
+    pub const UNCLOSED_STRING: u32 = 3;
+}
+
 // A table never counts more records than a word can name.
 fn cap(records: usize) -> u32
     ensures { λ r. ⌜ r ≡ min records 4294967295 ⌝ }

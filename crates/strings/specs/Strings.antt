@@ -6,6 +6,7 @@ use mathlib.Core.List.{List, [], _∷_, _++_}
 use lib.Dec.{ltb, eqb}
 use lib.ListN.{length, drop}
 use Rattle.text.specs.Text.{isText}
+use Rattle.records.specs.Outcomes as outcomes
 use Rattle.strings.specs.declared.Reading.{Reading}
 use Rattle.strings.specs.declared.Ended.{Ended}
 use Rattle.strings.specs.declared.Ended.the-variants.{Closed, Broken}
@@ -90,19 +91,19 @@ abbrev pub pickDecode : Bool → Decode → Decode → Decode
 pickDecode true a b = a
 pickDecode false a b = b
 
--- 10 if the buffer is too short, else 0 with the bytes
+-- a refusal if the buffer is too short, else the bytes
 abbrev pub fitted : List ℕ → ℕ → Decode
-fitted w room = pickDecode (ltb room (length w)) (refused 10) (record { outcome = 0; bytes = w })
+fitted w room = pickDecode (ltb room (length w)) (refused outcomes.noBufferRoom) (record { outcome = outcomes.ended; bytes = w })
 
--- 9 unless the byte at the front is a quote and rule 5, read from there, reaches a closing quote
+-- no string unless the byte at the front is a quote and rule 5, read from there, reaches a closing quote
 abbrev pub decodeAt : List ℕ → ℕ → Decode
-decodeAt [] room = refused 9
-decodeAt (b ∷ s) room = pickDecode (eqb b 34 && isClosed (readOf s begun)) (fitted (decodedFrom s false) room) (refused 9)
+decodeAt [] room = refused outcomes.notAString
+decodeAt (b ∷ s) room = pickDecode (eqb b 34 && isClosed (readOf s begun)) (fitted (decodedFrom s false) room) (refused outcomes.notAString)
 
--- decoding a string: 4 if the source is over 65,535 bytes, then 3 if the text test fails, then what stands at start decides
+-- decoding a string: too long if the source is over 65,535 bytes, then no text if the text test fails, then what stands at start decides
 unfoldable pub decodeOf : List ℕ → ℕ → ℕ → Decode
 decodeOf source start room =
-    pickDecode (ltb 65535 (length source)) (refused 4) (pickDecode (not (isText source)) (refused 3) (decodeAt (drop start source) room))
+    pickDecode (ltb 65535 (length source)) (refused outcomes.tooLong) (pickDecode (not (isText source)) (refused outcomes.notText) (decodeAt (drop start source) room))
 
 -- what a decoding returns and leaves: the outcome, the number of decoded bytes, and the buffer, changed only where those bytes stand
 pub record Decoding (d : Decode) (r : Decoded) (before after : List ℕ) : Type 0 where

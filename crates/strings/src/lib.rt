@@ -5,6 +5,7 @@ ghost use mathlib.Core.Bool.{false};
 ghost use Prim.Native.Nat.{_≤_, _<_, _^_};
 ghost use lib.ListN.{length, drop};
 ghost use Rattle.strings.specs.Strings.{unescaped, Grown, stepOf, readOf, begun, decodedFrom, decodeOf, Decoding};
+use records::Outcome;
 
 // What a string comes to. The size counts the bytes passed from the byte after the opening quote, the lines count the newlines among them that are not escaped.
 pub enum Ended {
@@ -165,25 +166,28 @@ pub fn decode(source: &[u8], start: usize, buffer: &mut [u8]) -> Decoded
     ensures { λ r. ⌜ Decoding (decodeOf (now (source .entry)) start (length (now (buffer .entry)))) r (now (buffer .entry)) (now (buffer .exit)) ⌝ }
 {
     if source.len() > 65535 {
-        return refuse(4);
+        return refuse(Outcome::TOO_LONG);
     }
     if !text::is_text(source) {
-        return refuse(3);
+        return refuse(Outcome::NOT_TEXT);
     }
     if start >= source.len() {
-        return refuse(9);
+        return refuse(Outcome::NOT_A_STRING);
     }
     if source[start] != b'"' {
-        return refuse(9);
+        return refuse(Outcome::NOT_A_STRING);
     }
     let from = start + 1;
     let ended = string(source, from);
     let Ended::Closed { length, .. } = ended else {
-        return refuse(9);
+        return refuse(Outcome::NOT_A_STRING);
     };
     if buffer.len() < length {
-        return refuse(10);
+        return refuse(Outcome::NO_BUFFER_ROOM);
     }
     write(source, from, buffer);
-    Decoded { outcome: 0, length }
+    Decoded {
+        outcome: Outcome::ENDED,
+        length,
+    }
 }

@@ -4,6 +4,7 @@ use mathlib.Core.Bool.{Bool, true, false, _&&_, cond}
 use mathlib.Core.List.{List, [], _∷_}
 use lib.Dec.{eqb}
 use lib.ListN.{length, take, drop}
+use Rattle.token.specs.Kind as kinds
 
 -- the bytes of s from a up to e, as far as s has them
 abbrev pub part : ℕ → ℕ → List ℕ → List ℕ
@@ -21,36 +22,36 @@ pub record Entry : Type 0 where
   pub word : List ℕ
   pub kind : ℕ
 
--- the kind of the first row whose word is w; Identifier's, 25, where there is none
+-- the kind of the first row whose word is w; Identifier where there is none
 abbrev pub lookup : List ℕ → List Entry → ℕ
-lookup w [] = 25
+lookup w [] = kinds.Identifier
 lookup w (k ∷ ks) = cond (same w (k .word)) (k .kind) (lookup w ks)
 
 -- the 22 rows, in the order of lexer.rs
 abbrev pub table : List Entry
 table =
-    record { word = 97 ∷ 110 ∷ 100 ∷ []; kind = 28 } ∷  -- and
-    record { word = 99 ∷ 108 ∷ 97 ∷ 115 ∷ 115 ∷ []; kind = 29 } ∷  -- class
-    record { word = 101 ∷ 108 ∷ 115 ∷ 101 ∷ []; kind = 30 } ∷  -- else
-    record { word = 102 ∷ 97 ∷ 108 ∷ 115 ∷ 101 ∷ []; kind = 31 } ∷  -- false
-    record { word = 102 ∷ 110 ∷ []; kind = 32 } ∷  -- fn
-    record { word = 102 ∷ 111 ∷ 114 ∷ []; kind = 33 } ∷  -- for
-    record { word = 105 ∷ 102 ∷ []; kind = 34 } ∷  -- if
-    record { word = 101 ∷ 108 ∷ 105 ∷ 102 ∷ []; kind = 35 } ∷  -- elif
-    record { word = 110 ∷ 105 ∷ 108 ∷ []; kind = 36 } ∷  -- nil
-    record { word = 111 ∷ 114 ∷ []; kind = 37 } ∷  -- or
-    record { word = 114 ∷ 101 ∷ 116 ∷ 117 ∷ 114 ∷ 110 ∷ []; kind = 38 } ∷  -- return
-    record { word = 98 ∷ 114 ∷ 101 ∷ 97 ∷ 107 ∷ []; kind = 39 } ∷  -- break
-    record { word = 99 ∷ 111 ∷ 110 ∷ 116 ∷ 105 ∷ 110 ∷ 117 ∷ 101 ∷ []; kind = 40 } ∷  -- continue
-    record { word = 115 ∷ 117 ∷ 112 ∷ 101 ∷ 114 ∷ []; kind = 41 } ∷  -- super
-    record { word = 116 ∷ 104 ∷ 105 ∷ 115 ∷ []; kind = 42 } ∷  -- this
-    record { word = 116 ∷ 114 ∷ 117 ∷ 101 ∷ []; kind = 43 } ∷  -- true
-    record { word = 108 ∷ 101 ∷ 116 ∷ []; kind = 44 } ∷  -- let
-    record { word = 119 ∷ 104 ∷ 105 ∷ 108 ∷ 101 ∷ []; kind = 45 } ∷  -- while
-    record { word = 110 ∷ 111 ∷ 116 ∷ []; kind = 46 } ∷  -- not
-    record { word = 105 ∷ 110 ∷ []; kind = 47 } ∷  -- in
-    record { word = 116 ∷ 114 ∷ 121 ∷ []; kind = 48 } ∷  -- try
-    record { word = 99 ∷ 97 ∷ 116 ∷ 99 ∷ 104 ∷ []; kind = 49 } ∷  -- catch
+    record { word = 97 ∷ 110 ∷ 100 ∷ []; kind = kinds.And } ∷  -- and
+    record { word = 99 ∷ 108 ∷ 97 ∷ 115 ∷ 115 ∷ []; kind = kinds.Class } ∷  -- class
+    record { word = 101 ∷ 108 ∷ 115 ∷ 101 ∷ []; kind = kinds.Else } ∷  -- else
+    record { word = 102 ∷ 97 ∷ 108 ∷ 115 ∷ 101 ∷ []; kind = kinds.False } ∷  -- false
+    record { word = 102 ∷ 110 ∷ []; kind = kinds.Fn } ∷  -- fn
+    record { word = 102 ∷ 111 ∷ 114 ∷ []; kind = kinds.For } ∷  -- for
+    record { word = 105 ∷ 102 ∷ []; kind = kinds.If } ∷  -- if
+    record { word = 101 ∷ 108 ∷ 105 ∷ 102 ∷ []; kind = kinds.Elif } ∷  -- elif
+    record { word = 110 ∷ 105 ∷ 108 ∷ []; kind = kinds.Nil } ∷  -- nil
+    record { word = 111 ∷ 114 ∷ []; kind = kinds.Or } ∷  -- or
+    record { word = 114 ∷ 101 ∷ 116 ∷ 117 ∷ 114 ∷ 110 ∷ []; kind = kinds.Return } ∷  -- return
+    record { word = 98 ∷ 114 ∷ 101 ∷ 97 ∷ 107 ∷ []; kind = kinds.Break } ∷  -- break
+    record { word = 99 ∷ 111 ∷ 110 ∷ 116 ∷ 105 ∷ 110 ∷ 117 ∷ 101 ∷ []; kind = kinds.Continue } ∷  -- continue
+    record { word = 115 ∷ 117 ∷ 112 ∷ 101 ∷ 114 ∷ []; kind = kinds.Super } ∷  -- super
+    record { word = 116 ∷ 104 ∷ 105 ∷ 115 ∷ []; kind = kinds.This } ∷  -- this
+    record { word = 116 ∷ 114 ∷ 117 ∷ 101 ∷ []; kind = kinds.True } ∷  -- true
+    record { word = 108 ∷ 101 ∷ 116 ∷ []; kind = kinds.Let } ∷  -- let
+    record { word = 119 ∷ 104 ∷ 105 ∷ 108 ∷ 101 ∷ []; kind = kinds.While } ∷  -- while
+    record { word = 110 ∷ 111 ∷ 116 ∷ []; kind = kinds.Not } ∷  -- not
+    record { word = 105 ∷ 110 ∷ []; kind = kinds.In } ∷  -- in
+    record { word = 116 ∷ 114 ∷ 121 ∷ []; kind = kinds.Try } ∷  -- try
+    record { word = 99 ∷ 97 ∷ 116 ∷ 99 ∷ 104 ∷ []; kind = kinds.Catch } ∷  -- catch
     []
 
 -- the kind of a name

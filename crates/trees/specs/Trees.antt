@@ -6,6 +6,7 @@ use mathlib.Core.List.{List, [], _∷_}
 use mathlib.Core.Logic.{_⊎_}
 use lib.Dec.{leb, eqb}
 use Rattle.records.specs.Table.{field, nodeWidth}
+use Rattle.records.specs.Kinds.{FnExpr, VarExpr, AccessExpr, BinaryExpr, LogicalExpr, EmptyExpr, FnStmt, LetStmt, ExprStmt, ElifBranch, ParameterName}
 use Rattle.records.specs.declared.Node as rows
 use Rattle.token.specs.Kind.{Or, And, EqualEqual, BangEqual, Greater, GreaterEqual, Less, LessEqual, Plus, Minus, Slash, Mod, Star, Power}
 use Rattle.parser.specs.Tokens.{count, kindAt}
@@ -17,14 +18,14 @@ pub data Sort : Type 0 where
 
 -- whether nodes of a kind are of a sort: kinds 1 to 17 are expressions, 18 to 30 statements
 abbrev pub isOf : Sort → ℕ → Bool
-isOf Expression k = leb 1 k && leb k 17
-isOf Statement k = leb 18 k && leb k 30
-isOf Variable k = eqb k 2
-isOf Index k = eqb k 6
-isOf Binding k = eqb k 19
-isOf Function k = eqb k 18
-isOf Branch k = eqb k 31
-isOf Parameter k = eqb k 32
+isOf Expression k = leb FnExpr k && leb k EmptyExpr
+isOf Statement k = leb FnStmt k && leb k ExprStmt
+isOf Variable k = eqb k VarExpr
+isOf Index k = eqb k AccessExpr
+isOf Binding k = eqb k LetStmt
+isOf Function k = eqb k FnStmt
+isOf Branch k = eqb k ElifBranch
+isOf Parameter k = eqb k ParameterName
 
 -- a child column: not used, one node, one node or 0, a list
 pub data Column : Type 0 where
@@ -195,7 +196,7 @@ binding k =
 
 -- whether a kind is Binary or Logical
 abbrev pub isOperation : ℕ → Bool
-isOperation k = eqb k 7 || eqb k 14
+isOperation k = eqb k BinaryExpr || eqb k LogicalExpr
 
 -- how tight a row binds: a Binary or Logical as its operator, all others 8
 abbrev pub tightness : List ℕ → rows.Node → ℕ
@@ -212,7 +213,7 @@ Binds false T N r = Unit {0}
 
 -- a row is well formed as row j: its kind is one of 1 to 32, its columns hold what the kind's may, and what it refers to is above d and not above j
 pub record Formed (T N : List ℕ) (d j : ℕ) (r : rows.Node) : Type 0 where
-  pub kind : (leb 1 (r .kind) && leb (r .kind) 32) ≡ true
+  pub kind : (leb FnExpr (r .kind) && leb (r .kind) ParameterName) ≡ true
   pub token1 : Spot (shapeOf (r .kind) .token1) (count T) (r .token1)
   pub token2 : Spot (shapeOf (r .kind) .token2) (count T) (r .token2)
   pub token3 : Spot (shapeOf (r .kind) .token3) (count T) (r .token3)

@@ -18,9 +18,9 @@ use Rattle.records.proofs.Room.{room-length}
 use Rattle.records.proofs.Field.{field-room}
 use Rattle.records.proofs.Rows.{rows-length, row-at}
 use Rattle.lexer.specs.Lex.{Result, refusal, pickResult, lexed, lexedOf}
-use Rattle.lexer.specs.Kept.{Good, Eof, Ending, whole, short, Keeps}
-use Rattle.lexer.proofs.Kept.{lexed-keeps}
-use Rattle.lexer.proofs.Answer.{token-count, tokens-within, errors-within}
+use Rattle.lexing.specs.Kept.{Good, Eof, Ending, whole, short, Keeps}
+use Rattle.lexing.proofs.Kept.{lexed-keeps}
+use Rattle.lexing.proofs.Answer.{token-count, tokens-within, errors-within}
 use Rattle.parser.specs.Tokens.{kindAt}
 use Rattle.reader.specs.Reading.{over}
 use Rattle.whole.proofs.Sizes.{over-keeps}

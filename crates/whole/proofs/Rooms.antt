@@ -10,8 +10,8 @@ use Rattle.text.specs.Text.{isText}
 use Rattle.records.specs.Table.{room, zeroed, tokenWidth, errorWidth, nodeWidth}
 use Rattle.records.proofs.Room.{room-length}
 use Rattle.lexer.specs.Lex.{Result, refusal, pickResult, lexed, lexedOf}
-use Rattle.lexer.proofs.Kept.{lexed-keeps}
-use Rattle.lexer.proofs.Answer.{errors-within}
+use Rattle.lexing.proofs.Kept.{lexed-keeps}
+use Rattle.lexing.proofs.Answer.{errors-within}
 use Rattle.parser.specs.Whole.{parsed}
 use Rattle.parsing.proofs.Frame.{parsed-errors-kept, parsed-nodes-within}
 use Rattle.reader.specs.Reading.{over, refused, joined, pickReading, readAfter, reading, unread}

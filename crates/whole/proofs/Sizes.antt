@@ -20,9 +20,9 @@ use Rattle.lexer.specs.declared.Item.{Item}
 use Rattle.lexer.specs.declared.Item.the-variants.{Space, Comment, Name, Text, Number, Mark, Wrong}
 use Rattle.lexer.specs.Items.{items}
 use Rattle.lexer.specs.Lex.{State, Result, Onward, go, stop, pickOnward, kept, andThen, token, step, closing, emit, fresh, noValue, refusal, pickResult, lexed, lexedOf}
-use Rattle.lexer.specs.Kept.{Good, Placed, Ending, whole, short}
-use Rattle.lexer.proofs.Kept.{lexed-keeps}
-use Rattle.lexer.proofs.Answer.{tokens-within, errors-within}
+use Rattle.lexing.specs.Kept.{Good, Placed, Ending, whole, short}
+use Rattle.lexing.proofs.Kept.{lexed-keeps}
+use Rattle.lexing.proofs.Answer.{tokens-within, errors-within}
 use Rattle.parser.specs.Tokens.{kindAt, lineAt}
 use Rattle.parser.specs.Whole.{Parsed, parsed}
 use Rattle.parsing.specs.Ahead.{Agree, isOutcome}

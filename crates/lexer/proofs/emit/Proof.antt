@@ -1,6 +1,7 @@
 -- `lexer::emit` meets its contract. Assumes nothing.
 use Prim.Native.Nat.{_<_}
 use native.Mathlib.Omega.{arith}
+use Rattle.records.specs.Table.{tokenWidth}
 use Rattle.lexer.proofs.Pushed.{full, roomy, counts}
 use borrow.Author.Needs.{needs}
 use Rattle.lexer.proofs.emit.Statement.{statement}
@@ -28,7 +29,7 @@ returns : tie.Need-returns
 returns c =
     let a = c .before .before .before .before .before .before .before .before .args in
     let p = c .before .before .before .push-token .ensures in
-    (full 7 (a .tokens .now) (a .l .tokens) _ (p .answer) _ _ (c .if1 .taken), p .table)
+    (full tokenWidth (a .tokens .now) (a .l .tokens) _ (p .answer) _ _ (c .if1 .taken), p .table)
 
 add-t16 : tie.Need-add-t16
 add-t16 c = search needs
@@ -36,7 +37,7 @@ add-t16 c = search needs
 add-t10 : tie.Need-add-t10
 add-t10 c =
     let a = c .before .before .before .before .before .before .before .before .before .args in
-    let h : a .l .tokens < 4294967295 = counts 7 (a .tokens .now) (a .l .tokens) _ (c .before .before .before .before .push-token .ensures .answer) (c .before .if1 .left) in
+    let h : a .l .tokens < 4294967295 = counts tokenWidth (a .tokens .now) (a .l .tokens) _ (c .before .before .before .before .push-token .ensures .answer) (c .before .if1 .left) in
     omega arith
 
 same-length-2 : tie.Need-same-length-2
@@ -46,7 +47,7 @@ returns-2 : tie.Need-returns-2
 returns-2 c =
     let a = c .before .before .before .before .before .before .before .before .before .args in
     let p = c .before .before .before .before .push-token .ensures in
-    (roomy 7 (a .tokens .now) (a .l .tokens) _ (p .answer) _ _ (c .before .if1 .left), p .table)
+    (roomy tokenWidth (a .tokens .now) (a .l .tokens) _ (p .answer) _ _ (c .before .if1 .left), p .table)
 
 pub emit-spec : {M : Type 1} → statement M
 emit-spec =

@@ -1,6 +1,7 @@
 -- `lexer::set_error` meets its contract. Assumes nothing.
 use Prim.Native.Nat.{_<_}
 use native.Mathlib.Omega.{arith}
+use Rattle.records.specs.Table.{errorWidth}
 use Rattle.lexer.proofs.Pushed.{full, roomy, counts}
 use borrow.Author.Needs.{needs}
 use Rattle.lexer.proofs.set_error.Statement.{statement}
@@ -25,7 +26,7 @@ returns : tie.Need-returns
 returns c =
     let a = c .before .before .before .before .before .before .before .before .args in
     let p = c .before .before .before .push-error .ensures in
-    (full 3 (a .errors .now) (a .l .errors) _ (p .answer) _ _ (c .if1 .taken), p .table)
+    (full errorWidth (a .errors .now) (a .l .errors) _ (p .answer) _ _ (c .if1 .taken), p .table)
 
 add-t14 : tie.Need-add-t14
 add-t14 c = search needs
@@ -33,7 +34,7 @@ add-t14 c = search needs
 add-t9 : tie.Need-add-t9
 add-t9 c =
     let a = c .before .before .before .before .before .before .before .before .before .args in
-    let h : a .l .errors < 4294967295 = counts 3 (a .errors .now) (a .l .errors) _ (c .before .before .before .before .push-error .ensures .answer) (c .before .if1 .left) in
+    let h : a .l .errors < 4294967295 = counts errorWidth (a .errors .now) (a .l .errors) _ (c .before .before .before .before .push-error .ensures .answer) (c .before .if1 .left) in
     omega arith
 
 same-length-2 : tie.Need-same-length-2
@@ -43,7 +44,7 @@ returns-2 : tie.Need-returns-2
 returns-2 c =
     let a = c .before .before .before .before .before .before .before .before .before .args in
     let p = c .before .before .before .before .push-error .ensures in
-    (roomy 3 (a .errors .now) (a .l .errors) _ (p .answer) _ _ (c .before .if1 .left), p .table)
+    (roomy errorWidth (a .errors .now) (a .l .errors) _ (p .answer) _ _ (c .before .if1 .left), p .table)
 
 pub set-error-spec : {M : Type 1} → statement M
 set-error-spec =

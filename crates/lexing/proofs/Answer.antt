@@ -14,9 +14,9 @@ use Rattle.records.specs.Table.{room, tokenWidth, errorWidth}
 use Rattle.records.specs.Words.{tokenWords, errorWords}
 use Rattle.records.proofs.Room.{room-fits, room-length}
 use Rattle.records.proofs.Rows.{rows-length}
 use Rattle.lexer.specs.Lex.{Result, refusal, pickResult, lexed, lexedOf}
-use Rattle.lexer.specs.Kept.{Good, Placed, Ending, whole, short}
-use Rattle.lexer.proofs.Kept.{lexed-keeps}
+use Rattle.lexing.specs.Kept.{Good, Placed, Ending, whole, short}
+use Rattle.lexing.proofs.Kept.{lexed-keeps}
 
 -- ---- of what is kept
 ending-count : (n : ℕ) (r : Result) → Ending n r → r .tokenCount ≤ n + 2

@@ -2,31 +2,34 @@
 use Prim.Native.Nat.{ℕ, _+_, _≤_, _<_}
 use mathlib.Core.Path.{_≡_}
 use mathlib.Core.List.{List, [], _++_}
+use Rattle.token.specs.Kind as kinds
 use Rattle.records.specs.declared.TokenData.{TokenData}
 use Rattle.records.specs.declared.InterpreterError.{InterpreterError}
 use Rattle.records.specs.Words.{tokenWords, errorWords}
 use Rattle.records.specs.Rows.{Rows}
+use Rattle.records.specs.Messages.{loneBang, unclosedString}
+use Rattle.records.specs.Outcomes.{ended}
 use Rattle.lexer.specs.Lex.{Result}
 
 -- a token of a source of n bytes that is not EOF: its kind, its bytes within the source, its line
 pub record Good (n : ℕ) (d : TokenData) : Type 0 where
-  pub kind-from : 1 ≤ d .kind
-  pub kind-to : d .kind ≤ 49
+  pub kind-from : kinds.Newline ≤ d .kind
+  pub kind-to : d .kind ≤ kinds.Catch
   pub inside : d .start + d .length ≤ n
   pub line-from : 1 ≤ d .line
   pub line-to : d .line ≤ n + 1
 
 -- an error of lexing: one of the three messages, its pos within the source, its line
 pub record Placed (n : ℕ) (d : InterpreterError) : Type 0 where
-  pub message-from : 1 ≤ d .message
-  pub message-to : d .message ≤ 3
+  pub message-from : loneBang ≤ d .message
+  pub message-to : d .message ≤ unclosedString
   pub inside : d .pos < n
   pub line-from : 1 ≤ d .line
   pub line-to : d .line ≤ n + 1
 
 -- EOF: an empty token at the source's end
 pub record Eof (n : ℕ) (d : TokenData) : Type 0 where
-  pub kind-is : d .kind ≡ 0
+  pub kind-is : d .kind ≡ kinds.EOF
   pub start-is : d .start ≡ n
   pub length-is : d .length ≡ 0
   pub line-from : 1 ≤ d .line
@@ -40,9 +43,9 @@ pub data InOrder : List ℕ → ℕ → ℕ → Type 0 where
 
 -- the tokens of a lexing of n bytes: where it reached the end the last is the only EOF; else there is none
 pub data Ending (n : ℕ) (r : Result) : Type 0 where
-  whole : (ws : List ℕ) (m : ℕ) (d : TokenData) → r .outcome ≡ 0 → Rows tokenWords (Good n) ws m → m ≤ n + 1 → Eof n d
+  whole : (ws : List ℕ) (m : ℕ) (d : TokenData) → r .outcome ≡ ended → Rows tokenWords (Good n) ws m → m ≤ n + 1 → Eof n d
       → r .tokens ≡ ws ++ tokenWords d → r .tokenCount ≡ m + 1 → Ending n r
-  short : (r .outcome ≡ 0 → ⊥) → Rows tokenWords (Good n) (r .tokens) (r .tokenCount) → r .tokenCount ≤ n + 1 → Ending n r
+  short : (r .outcome ≡ ended → ⊥) → Rows tokenWords (Good n) (r .tokens) (r .tokenCount) → r .tokenCount ≤ n + 1 → Ending n r
 
 -- what every lexing of n bytes keeps, with room for so many tokens and errors
 pub record Keeps (n tokenRoom errorRoom : ℕ) (r : Result) : Type 0 where
