@@ -8,9 +8,10 @@ use native.Mathlib.Nat.{min-le-right, le-trans}
 use borrow.Author.Tests.{ltb-true, ltb-false, lt-ltb, le-ltb}
 use lib.Dec.{ltb}
 use lib.ListN.{length}
-use Rattle.records.specs.Table.{room, put, errorWidth, nodeWidth, Pushed}
+use Rattle.records.specs.Table.{room, errorWidth, nodeWidth, Pushed}
 use Rattle.records.specs.Words.{errorWords, nodeWords}
 use Rattle.records.specs.declared.Node as rows
+use Rattle.records.specs.declared.InterpreterError.{InterpreterError}
 use Rattle.records.proofs.Put.{put-none}
 use Rattle.parser.specs.declared.State.{State}
 use Rattle.parser.specs.declared.Out.{Out}
@@ -19,8 +20,8 @@ use Rattle.parser.specs.declared.Got.{Got}
 use Rattle.parser.specs.declared.Got.the-variants.{Node, Stop}
 use Rattle.parser.specs.declared.Seen.{Seen}
 use Rattle.parser.specs.declared.Seen.the-variants.{At, Nothing}
-use Rattle.parser.specs.Tokens.{lineAt, matchesAt}
-use Rattle.parser.specs.Tables.{Reply, reply, moved, plain, pushNode, pushError, andThen, consumeAt, requireAt}
+use Rattle.parser.specs.Tokens.{matchesAt}
+use Rattle.parser.specs.Tables.{Reply, reply, moved, withNode, withError, errorAt, plain, errorMade, pushNode, pushError, andThen, consumeAt, requireAt}
 use Rattle.parser.specs.Programs.{raised}
 use Rattle.parser.specs.Grammar.{firstOf}
 
@@ -30,13 +31,13 @@ counted w t n b answer h = le-trans (ltb-true n (room w t) (sym answer ∙ h)) (
 
 -- ---- nodes
 module _ (d : rows.Node) (p : State) (E N N′ : List ℕ) (b : Bool) (o : Out) (h : Pushed nodeWidth N (p .nodes) (nodeWords d) b N′) where
-  pub node-made : b ≡ true → o ≡ record { p = record { current = p .current; errors = p .errors; nodes = p .nodes + 1; loops = p .loops }; got = Node (plain (p .nodes + 1)) }
-      → reply (o .p) (o .got) E N′ ≡ pushNode d p E N
+  pub node-made : (q : State) → b ≡ true → q ≡ withNode p → o ≡ record { p = q; got = Node (plain (p .nodes + 1)) } → reply (o .p) (o .got) E N′ ≡ pushNode d p E N
   unfolding pushNode
-  node-made t e =
+  node-made q t s e =
       let r : ltb (p .nodes) (room nodeWidth N) ≡ true = sym (h .answer) ∙ t in
       ap (λ (x : Out). reply (x .p) (x .got) E N′) e
-      ∙ ap (reply (record { current = p .current; errors = p .errors; nodes = p .nodes + 1; loops = p .loops }) (Node (plain (p .nodes + 1))) E) (h .table)
+      ∙ ap (λ (x : State). reply x (Node (plain (p .nodes + 1))) E N′) s
+      ∙ ap (reply (withNode p) (Node (plain (p .nodes + 1))) E) (h .table)
       ∙ sym (rw (r, pushNode))
 
   pub node-refused : b ≡ false → o ≡ record { p = p; got = Stop 7 } → reply (o .p) (o .got) E N′ ≡ pushNode d p E N
@@ -48,17 +49,15 @@ module _ (d : rows.Node) (p : State) (E N N′ : List ℕ) (b : Bool) (o : Out) 
       ∙ sym (rw (r, pushNode))
 
 -- ---- errors
-module _ (T : List ℕ) (message i line : ℕ) (p : State) (E E′ N : List ℕ) (b : Bool) (o : Out) (l : line ≡ lineAt T i)
-    (h : Pushed errorWidth E (p .errors) (errorWords (record { message = message; line = line; pos = 0 })) b E′) where
-  pub error-made : b ≡ true → o ≡ record { p = record { current = p .current; errors = p .errors + 1; nodes = p .nodes; loops = p .loops }; got = Node (plain 0) }
-      → reply (o .p) (o .got) E′ N ≡ pushError T message i p E N
+module _ (T : List ℕ) (message i : ℕ) (d : InterpreterError) (p : State) (E E′ N : List ℕ) (b : Bool) (o : Out) (l : d ≡ errorAt T message i) (h : Pushed errorWidth E (p .errors) (errorWords d) b E′) where
+  pub error-made : (q : State) → b ≡ true → q ≡ withError p → o ≡ record { p = q; got = Node (plain 0) } → reply (o .p) (o .got) E′ N ≡ pushError T message i p E N
   unfolding pushError
-  error-made t e =
+  error-made q t s e =
       let r : ltb (p .errors) (room errorWidth E) ≡ true = sym (h .answer) ∙ t in
-      let q : State = record { current = p .current; errors = p .errors + 1; nodes = p .nodes; loops = p .loops } in
       ap (λ (x : Out). reply (x .p) (x .got) E′ N) e
-      ∙ ap (λ (x : List ℕ). reply q (Node (plain 0)) x N) (h .table)
-      ∙ ap (λ (x : ℕ). reply q (Node (plain 0)) (put errorWidth E (p .errors) (errorWords (record { message = message; line = x; pos = 0 }))) N) l
+      ∙ ap (λ (x : State). reply x (Node (plain 0)) E′ N) s
+      ∙ ap (λ (x : List ℕ). reply (withError p) (Node (plain 0)) x N) (h .table)
+      ∙ ap (λ (x : InterpreterError). errorMade x p E N) l
       ∙ sym (rw (r, pushError))
 
   pub error-refused : b ≡ false → o ≡ record { p = p; got = Stop 6 } → reply (o .p) (o .got) E′ N ≡ pushError T message i p E N

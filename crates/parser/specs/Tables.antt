@@ -3,9 +3,11 @@ use Prim.Native.Nat.{ℕ, _+_}
 use mathlib.Core.Bool.{true, false}
 use mathlib.Core.List.{List}
 use lib.Dec.{ltb}
+use Rattle.records.specs.Outcomes.{fatalStop, noErrorRoom, noNodeRoom}
 use Rattle.records.specs.Table.{room, put, errorWidth, nodeWidth}
 use Rattle.records.specs.Words.{errorWords, nodeWords}
 use Rattle.records.specs.declared.Node as rows
+use Rattle.records.specs.declared.InterpreterError.{InterpreterError}
 use Rattle.parser.specs.declared.State.{State}
 use Rattle.parser.specs.declared.Form.the-variants.{Other}
 use Rattle.parser.specs.declared.Found.{Found}
@@ -27,25 +29,49 @@ moved p i = record { current = i; errors = p .errors; nodes = p .nodes; loops = 
 abbrev pub looped : State → ℕ → State
 looped p n = record { current = p .current; errors = p .errors; nodes = p .nodes; loops = n }
 
+-- with so many nodes
+abbrev pub withNodes : State → ℕ → State
+withNodes p n = record { current = p .current; errors = p .errors; nodes = n; loops = p .loops }
+
+-- with so many errors
+abbrev pub withErrors : State → ℕ → State
+withErrors p n = record { current = p .current; errors = n; nodes = p .nodes; loops = p .loops }
+
+-- the state that a parsing starts in, with so many errors recorded before
+abbrev pub freshState : ℕ → State
+freshState errors = record { current = 0; errors = errors; nodes = 0; loops = 0 }
+
+-- one node more
+abbrev pub withNode : State → State
+withNode p = withNodes p (p .nodes + 1)
+
+-- one error more
+abbrev pub withError : State → State
+withError p = withErrors p (p .errors + 1)
+
+-- the error with that message about token i
+abbrev pub errorAt : List ℕ → ℕ → ℕ → InterpreterError
+errorAt T message i = record { message = message; line = lineAt T i; pos = 0 }
+
 -- a node, or a token's reference, that is nothing left of `=`
 abbrev pub plain : ℕ → Found
 plain n = record { node = n; form = Other; access = 0 }
 
--- one more node: its reference; outcome 7 where it finds no room
-unfoldable pub pushNode : rows.Node → State → List ℕ → List ℕ → Reply
-pushNode d p E N =
-    elim (ltb (p .nodes) (room nodeWidth N)) [
-      | true ↦ reply (record { current = p .current; errors = p .errors; nodes = p .nodes + 1; loops = p .loops }) (Node (plain (p .nodes + 1))) E (put nodeWidth N (p .nodes) (nodeWords d))
-      | false ↦ reply p (Stop 7) E N
-    ]
+-- a node that finds room: its reference
+abbrev pub nodeMade : rows.Node → State → List ℕ → List ℕ → Reply
+nodeMade d p E N = reply (withNode p) (Node (plain (p .nodes + 1))) E (put nodeWidth N (p .nodes) (nodeWords d))
 
--- one more error, with the line of token i and pos 0; outcome 6 where it finds no room
+-- an error that finds room: reference 0
+abbrev pub errorMade : InterpreterError → State → List ℕ → List ℕ → Reply
+errorMade e p E N = reply (withError p) (Node (plain 0)) (put errorWidth E (p .errors) (errorWords e)) N
+
+-- one more node; outcome 7 where it finds no room
+unfoldable pub pushNode : rows.Node → State → List ℕ → List ℕ → Reply
+pushNode d p E N = elim (ltb (p .nodes) (room nodeWidth N)) [ true ↦ nodeMade d p E N | false ↦ reply p (Stop noNodeRoom) E N ]
+
+-- one more error, about token i; outcome 6 where it finds no room
 unfoldable pub pushError : List ℕ → ℕ → ℕ → State → List ℕ → List ℕ → Reply
-pushError T message i p E N =
-    elim (ltb (p .errors) (room errorWidth E)) [
-      | true ↦ reply (record { current = p .current; errors = p .errors + 1; nodes = p .nodes; loops = p .loops }) (Node (plain 0)) (put errorWidth E (p .errors) (errorWords (record { message = message; line = lineAt T i; pos = 0 }))) N
-      | false ↦ reply p (Stop 6) E N
-    ]
+pushError T message i p E N = elim (ltb (p .errors) (room errorWidth E)) [ true ↦ errorMade (errorAt T message i) p E N | false ↦ reply p (Stop noErrorRoom) E N ]
 
 -- by whether a token was found
 abbrev pub ifSeen : Seen → (ℕ → Reply) → (Unit {0} → Reply) → Reply
@@ -67,4 +93,4 @@ consumeAt T kind message p E N =
 unfoldable pub requireAt : List ℕ → ℕ → ℕ → State → List ℕ → List ℕ → Reply
 requireAt T kind message p E N =
     ifSeen (matchesAt T (p .current) kind) (λ i. reply (moved p i) (Node (plain i)) E N) λ _.
-    andThen (pushError T message (p .current) p E N) λ f q E N. reply q (Stop 1) E N
+    andThen (pushError T message (p .current) p E N) λ f q E N. reply q (Stop fatalStop) E N

@@ -12,7 +12,7 @@ use Rattle.parser.specs.declared.State.{State}
 use Rattle.parser.specs.declared.Got.the-variants.{Node, Stop}
 use Rattle.parser.specs.declared.Parsed as answers
 use Rattle.parser.specs.Tokens.{count, kindAt}
-use Rattle.parser.specs.Tables.{Reply, reply, andThen, consumeAt}
+use Rattle.parser.specs.Tables.{Reply, reply, freshState, andThen, consumeAt}
 use Rattle.parser.specs.Programs.{Reader, Declaration}
 use Rattle.parser.specs.Grammar.{firstOf, lower}
 
@@ -56,7 +56,7 @@ statements (suc f) T first last p E N =
 
 -- the parsing of a token table, with so many errors recorded before
 unfoldable pub parsed : List ℕ → ℕ → List ℕ → List ℕ → Parsed
-parsed T errors E N = statements (suc (count T)) T 0 0 (record { current = 0; errors = errors; nodes = 0; loops = 0 }) E N
+parsed T errors E N = statements (suc (count T)) T 0 0 (freshState errors) E N
 
 -- what a parsing answers, and the tables it leaves
 pub record Parsing (d : Parsed) (r : answers.Parsed) (errors′ nodes′ : List ℕ) : Type 0 where

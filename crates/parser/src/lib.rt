@@ -6,7 +6,7 @@ ghost use Prim.Native.Nat.{ℕ, _-_};
 ghost use lib.Dec.{eqb};
 ghost use Rattle.token.specs.Kind.{EOF};
 ghost use Rattle.parser.specs.Tokens.{kindAt, lineAt, after, skipLines, peekAt, checkAt, matchesAt};
-ghost use Rattle.parser.specs.Tables.{Reply, reply, moved, looped, pushNode, pushError, plain, consumeAt, requireAt};
+ghost use Rattle.parser.specs.Tables.{Reply, reply, moved, looped, withNodes, withErrors, freshState, errorAt, pushNode, pushError, plain, consumeAt, requireAt};
 ghost use Rattle.parser.specs.Programs.{raised};
 ghost use Rattle.parser.specs.Grammar.{firstOf};
 use records::InterpreterError;
@@ -170,6 +170,42 @@ impl State {
         }
     }
 
+    // With so many nodes.
+    pub fn with_nodes(self, n: u32) -> Self
+        ensures { λ r. ⌜ r ≡ withNodes self n ⌝ }
+    {
+        State {
+            current: self.current,
+            errors: self.errors,
+            nodes: n,
+            loops: self.loops,
+        }
+    }
+
+    // With so many errors.
+    pub fn with_errors(self, n: u32) -> Self
+        ensures { λ r. ⌜ r ≡ withErrors self n ⌝ }
+    {
+        State {
+            current: self.current,
+            errors: n,
+            nodes: self.nodes,
+            loops: self.loops,
+        }
+    }
+
+    // The state that a parsing starts in, with so many errors recorded before.
+    pub fn fresh(errors: u32) -> Self
+        ensures { λ r. ⌜ r ≡ freshState errors ⌝ }
+    {
+        State {
+            current: 0,
+            errors,
+            nodes: 0,
+            loops: 0,
+        }
+    }
+
     // `previous`: the reference of the token before the cursor is the cursor itself.
     pub fn previous(self) -> u32
         ensures { λ r. ⌜ r ≡ self .current ⌝ }
@@ -244,40 +280,32 @@ pub fn make(nodes: &mut [u32], p: State, d: Node) -> Out
 {
     let n = p.nodes;
     if records::push_node(nodes, n, d) {
-        return gives(
-            State {
-                current: p.current,
-                errors: p.errors,
-                nodes: n + 1,
-                loops: p.loops,
-            },
-            n + 1,
-        );
+        let m = n + 1;
+        return gives(p.with_nodes(m), m);
     }
     stopped(p, 7)
 }
 
-// The one function that makes a parser error: message, and the token whose line it reports; 6 where it finds no room.
+// The error with that message about a token.
+pub fn error_at(tokens: &[u32], message: u32, token: u32) -> InterpreterError
+    ensures { λ r. ⌜ r ≡ errorAt (now (tokens .entry)) message token ⌝ }
+{
+    let line = line_at(tokens, token);
+    InterpreterError {
+        message,
+        line,
+        pos: 0,
+    }
+}
+
+// The one function that records a parser error: message, and the token whose line it reports; 6 where it finds no room.
 pub fn set_error(tokens: &[u32], errors: &mut [u32], p: State, message: u32, token: u32) -> Out
     ensures { λ r. ⌜ ((N : List ℕ) → reply (r .p) (r .got) (now (errors .exit)) N ≡ pushError (now (tokens .entry)) message token p (now (errors .entry)) N) ⌝ }
 {
     let n = p.errors;
-    let line = line_at(tokens, token);
-    let e = InterpreterError {
-        message,
-        line,
-        pos: 0,
-    };
+    let e = error_at(tokens, message, token);
     if records::push_error(errors, n, e) {
-        return gives(
-            State {
-                current: p.current,
-                errors: n + 1,
-                nodes: p.nodes,
-                loops: p.loops,
-            },
-            0,
-        );
+        return gives(p.with_errors(n + 1), 0);
     }
     stopped(p, 6)
 }

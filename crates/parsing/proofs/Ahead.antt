@@ -9,8 +9,7 @@ use lib.Dec as dec
 use lib.Dec.{leb, ltb, eqb}
 use borrow.Author.Tests.{eqb-true, eqb-false}
 use Rattle.token.specs.Kind.{Newline, RightParen, RightBrace}
-use Rattle.records.specs.Table.{room, put, linked, tokenWidth, errorWidth, nodeWidth}
-use Rattle.records.specs.Words.{errorWords, nodeWords}
+use Rattle.records.specs.Table.{room, linked, tokenWidth}
 use Rattle.records.specs.declared.Node as rows
 use Rattle.records.proofs.Room.{lt-or-le}
 use Rattle.records.proofs.Field.{field-none}
@@ -22,11 +21,12 @@ use Rattle.parser.specs.declared.Got.{Got}
 use Rattle.parser.specs.declared.Got.the-variants.{Node, Stop}
 use Rattle.parser.specs.declared.Seen.{Seen}
 use Rattle.parser.specs.declared.Seen.the-variants.{At, Nothing}
-use Rattle.parser.specs.Tokens.{count, kindAt, lineAt, after, skipFrom, skipLines, seenIf, checkAt, matchesAt}
-use Rattle.parser.specs.Tables.{Reply, reply, moved, looped, plain, pushNode, pushError, ifSeen, andThen, consumeAt, requireAt}
+use Rattle.parser.specs.Tokens.{count, kindAt, after, skipFrom, skipLines, seenIf, checkAt, matchesAt}
+use Rattle.parser.specs.Tables.{Reply, reply, moved, looped, freshState, plain, pushNode, pushError, ifSeen, andThen, consumeAt, requireAt}
 use Rattle.parser.specs.Programs.{Reader, Which, Declaration, Assignment, Operand, Prog, give, stop, _>>=_, _>>_, look, check, atEnd, previous, node, link, fail, failAt, consume, require, enterLoop, leaveLoop, insideLoop, inFunction, down, either, restored, run}
 use Rattle.parser.specs.Grammar.{firstOf, property, when, assigned, Level, levels, fuel, blockFrom, block, expressionStmt, parametersFrom, parameters, functionBody, fnStmt, fnExpr, methodsFrom, class, letStmt, namesFrom, enhancedFor, classicFor, forLoop, tryCatch, elifsFrom, elseFrom, ifStmt, ret, brk, cont, whileStmt, statement, declaration, argumentsFrom, arguments, list, dictElementsFrom, dictionary, closed, access, superExpr, primary, finishCall, callFrom, call, unary, lookMany, binaryFrom, binary, assignment, body, lower}
 use Rattle.parser.specs.Whole.{Parsed, topLevel, orEnds, ifEnd, statements, parsed}
+use Rattle.parser.proofs.Push.{push-nodes, push-errors}
 use Rattle.parsing.specs.Ahead.{Agree, isOutcome}
 use Rattle.parsing.proofs.Same.{body-same}
 use Rattle.progress.proofs.Fuel.{parsed-never-spent}
@@ -356,27 +356,11 @@ ahead-restored e p (ahead q (Node f) E N l x) = ahead (looped q (p .loops)) (Nod
 ahead-restored e p (ahead q (Stop o) E N l x) = ahead q (Stop o) E N l x
 
 ahead-push : (e : ℕ) (d : rows.Node) (p : State) (E N : List ℕ) → p .current ≤ e → Ahead e (pushNode d p E N) (pushNode d p E N)
-unfolding pushNode
-ahead-push e d p E N l = go (ltb (p .nodes) (room nodeWidth N))
-  where
-    after-push : Bool → Reply
-    after-push b = elim b [ true ↦ reply (record { current = p .current; errors = p .errors; nodes = p .nodes + 1; loops = p .loops }) (Node (plain (p .nodes + 1))) E (put nodeWidth N (p .nodes) (nodeWords d)) | false ↦ reply p (Stop 7) E N ]
-
-    go : (b : Bool) → Ahead e (after-push b) (after-push b)
-    go true = ahead _ _ _ _ l tt
-    go false = ahead _ _ _ _ l tt
+ahead-push e d p E N l = push-nodes (Ahead e) d d p p E N E N refl refl (λ _. ahead _ _ _ _ l tt) (ahead _ _ _ _ l tt)
 
 module _ (T T′ : List ℕ) (e : ℕ) (a : Agree e T T′) where
   ahead-error : (m i : ℕ) (p : State) (E N : List ℕ) → i ≤ e → p .current ≤ e → Ahead e (pushError T m i p E N) (pushError T′ m i p E N)
-  unfolding pushError
-  ahead-error m i p E N h l = go (ltb (p .errors) (room errorWidth E)) (lineAt T i) (lineAt T′ i) (a .lines i h)
-    where
-      after-push : Bool → ℕ → Reply
-      after-push b line = elim b [ true ↦ reply (record { current = p .current; errors = p .errors + 1; nodes = p .nodes; loops = p .loops }) (Node (plain 0)) (put errorWidth E (p .errors) (errorWords (record { message = m; line = line; pos = 0 }))) N | false ↦ reply p (Stop 6) E N ]
-
-      go : (b : Bool) (x y : ℕ) → x ≡ y → Ahead e (after-push b x) (after-push b y)
-      go true x y s = rw s (ahead _ _ _ _ l tt)
-      go false x y s = ahead _ _ _ _ l tt
+  ahead-error m i p E N h l = push-errors (Ahead e) T T′ m i p p E N E N refl refl (λ _. rw (a .lines i h) (ahead _ _ _ _ l tt)) (ahead _ _ _ _ l tt)
 
   ahead-consume : (kind m : ℕ) (p : State) (E N : List ℕ) → p .current ≤ e → Ahead e (consumeAt T kind m p E N) (consumeAt T′ kind m p E N)
   unfolding consumeAt
@@ -448,7 +432,7 @@ module _ (T T′ : List ℕ) (e : ℕ) (a : Agree e T T′) where
   -- a parsing depends on the tokens up to an EOF, and on how many tokens the table has room for
   pub parsed-tokens : (errors : ℕ) (E N : List ℕ) → parsed T errors E N ≡ parsed T′ errors E N
   unfolding parsed
-  parsed-tokens errors E N = rw (← a .counts) (statements-tokens (suc (count T)) 0 0 (record { current = 0; errors = errors; nodes = 0; loops = 0 }) E N (omega arith))
+  parsed-tokens errors E N = rw (← a .counts) (statements-tokens (suc (count T)) 0 0 (freshState errors) E N (omega arith))
 
 -- ---- the outcomes
 module _ (T : List ℕ) where
@@ -473,7 +457,7 @@ module _ (T : List ℕ) where
   -- a parsing ends with outcome 0, 1, 6, 7 or 8
   pub parsed-outcome : (errors : ℕ) (E N : List ℕ) → isOutcome (parsed T errors E N .outcome) ≡ true
   unfolding parsed
-  parsed-outcome errors E N = go (isOutcome o) refl (eqb o 99) refl (statements-stop (suc (count T)) 0 0 (record { current = 0; errors = errors; nodes = 0; loops = 0 }) E N (omega arith))
+  parsed-outcome errors E N = go (isOutcome o) refl (eqb o 99) refl (statements-stop (suc (count T)) 0 0 (freshState errors) E N (omega arith))
     where
       o : ℕ
       o = parsed T errors E N .outcome

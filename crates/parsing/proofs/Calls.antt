@@ -2,22 +2,22 @@
 use mathlib.Core.Path.{_≡_, refl, subst, subst⁻¹}
 use mathlib.Core.Bool.{Bool, true, false}
 use mathlib.Core.List.{List, _∷_}
-use Prim.Native.Nat.{ℕ, zero, suc, _+_, _-_}
+use Prim.Native.Nat.{ℕ, zero, suc, _-_}
 use native.Mathlib.Omega.{arith}
 use borrow.Author.Tests.{eq-eqb}
-use lib.Dec.{ltb, eqb}
+use lib.Dec.{eqb}
 use lib.ListN.{length}
-use Rattle.records.specs.Table.{room, put, linked, errorWidth, nodeWidth}
-use Rattle.records.specs.Words.{errorWords, nodeWords}
+use Rattle.records.specs.Table.{linked}
 use Rattle.records.specs.declared.Node as rows
 use Rattle.parser.specs.declared.State.{State}
 use Rattle.parser.specs.declared.Found.{Found}
 use Rattle.parser.specs.declared.Seen.{Seen}
 use Rattle.parser.specs.declared.Seen.the-variants.{At, Nothing}
 use Rattle.parser.specs.declared.Got.the-variants.{Node, Stop}
-use Rattle.parser.specs.Tokens.{kindAt, lineAt, checkAt, matchesAt}
+use Rattle.parser.specs.Tokens.{kindAt, checkAt, matchesAt}
 use Rattle.parser.specs.Tables.{Reply, reply, moved, looped, plain, pushNode, pushError, ifSeen, andThen, consumeAt, requireAt}
 use Rattle.parser.specs.Programs.{Reader, Which, Prog, give, stop, _>>=_, _>>_, look, check, atEnd, previous, node, link, fail, failAt, consume, require, enterLoop, leaveLoop, insideLoop, inFunction, down, raised, either, restored, run}
+use Rattle.parser.proofs.Push.{push-nodes, push-errors}
 use Rattle.parsing.specs.Calls.{Name, called, lambda, Call, nameOf, sameName, withLoops, Named, named, unequal, NamedReader, thenNamed, ifNamed, eitherNamed, leave, runNamed, lowerNamed}
 use Rattle.parser.specs.Grammar.{body, lower}
 
@@ -52,39 +52,10 @@ agree-either cs false a b c d h g = g
 -- ---- leaves: the loop count is not looked at
 module _ (c : Call) (cs : List Call) (p : State) where
   agree-node : (d : rows.Node) (E N : List ℕ) → Agree (c ∷ cs) (named (pushNode d p E N) (c ∷ cs)) (pushNode d (looped p (c .loops)) E N)
-  unfolding pushNode
-  agree-node d E N = go (ltb (p .nodes) (room nodeWidth N))
-    where
-      go : (b : Bool) → Agree (c ∷ cs)
-          (named (elim b [
-            | true ↦ reply (record { current = p .current; errors = p .errors; nodes = p .nodes + 1; loops = p .loops }) (Node (plain (p .nodes + 1))) E (put nodeWidth N (p .nodes) (nodeWords d))
-            | false ↦ reply p (Stop 7) E N
-          ]) (c ∷ cs))
-          (elim b [
-            | true ↦ reply (record { current = p .current; errors = p .errors; nodes = p .nodes + 1; loops = c .loops }) (Node (plain (p .nodes + 1))) E (put nodeWidth N (p .nodes) (nodeWords d))
-            | false ↦ reply (looped p (c .loops)) (Stop 7) E N
-          ])
-      go true = nodes _ _ E _ (c .loops)
-      go false = stops p 7 E N _ (c .loops)
+  agree-node d E N = push-nodes (λ x y. Agree (c ∷ cs) (named x (c ∷ cs)) y) d d p (looped p (c .loops)) E N E N refl refl (λ _. nodes _ _ E _ (c .loops)) (stops p 7 E N _ (c .loops))
 
   agree-error : (T : List ℕ) (message i : ℕ) (E N : List ℕ) → Agree (c ∷ cs) (named (pushError T message i p E N) (c ∷ cs)) (pushError T message i (looped p (c .loops)) E N)
-  unfolding pushError
-  agree-error T message i E N = go (ltb (p .errors) (room errorWidth E))
-    where
-      e : List ℕ
-      e = put errorWidth E (p .errors) (errorWords (record { message = message; line = lineAt T i; pos = 0 }))
-
-      go : (b : Bool) → Agree (c ∷ cs)
-          (named (elim b [
-            | true ↦ reply (record { current = p .current; errors = p .errors + 1; nodes = p .nodes; loops = p .loops }) (Node (plain 0)) e N
-            | false ↦ reply p (Stop 6) E N
-          ]) (c ∷ cs))
-          (elim b [
-            | true ↦ reply (record { current = p .current; errors = p .errors + 1; nodes = p .nodes; loops = c .loops }) (Node (plain 0)) e N
-            | false ↦ reply (looped p (c .loops)) (Stop 6) E N
-          ])
-      go true = nodes _ _ e N (c .loops)
-      go false = stops p 6 E N _ (c .loops)
+  agree-error T message i E N = push-errors (λ x y. Agree (c ∷ cs) (named x (c ∷ cs)) y) T T message i p (looped p (c .loops)) E N E N refl refl (λ _. nodes _ _ _ N (c .loops)) (stops p 6 E N _ (c .loops))
 
   agree-consume : (T : List ℕ) (kind message : ℕ) (E N : List ℕ) → Agree (c ∷ cs) (named (consumeAt T kind message p E N) (c ∷ cs)) (consumeAt T kind message (looped p (c .loops)) E N)
   unfolding consumeAt

@@ -5,8 +5,7 @@ use mathlib.Core.List.{List}
 use mathlib.Core.Logic.{⊎-elim}
 use Prim.Native.Nat.{ℕ, zero, suc, _+_, _-_, _*_, _≤_, _<_}
 use native.Mathlib.Omega.{arith}
-use borrow.Author.Tests.{ltb-true}
-use lib.Dec.{ltb, leb, eqb}
+use lib.Dec.{leb, eqb}
 use lib.ListN.{length, getD, take, drop, set, length-set, List·getD-eq-default}
 use lib.Seq.{drop-drop, take-take, take-at, length-take-le, getD-take, getD-set-other}
 use Rattle.token.specs.Kind.{Newline}
@@ -23,11 +22,12 @@ use Rattle.parser.specs.declared.Got.{Got}
 use Rattle.parser.specs.declared.Got.the-variants.{Node, Stop}
 use Rattle.parser.specs.declared.Seen.{Seen}
 use Rattle.parser.specs.declared.Seen.the-variants.{At, Nothing}
-use Rattle.parser.specs.Tokens.{count, kindAt, lineAt, checkAt, matchesAt}
-use Rattle.parser.specs.Tables.{Reply, reply, moved, looped, plain, pushNode, pushError, ifSeen, andThen, consumeAt, requireAt}
+use Rattle.parser.specs.Tokens.{count, kindAt, checkAt, matchesAt}
+use Rattle.parser.specs.Tables.{Reply, reply, moved, looped, freshState, errorAt, pushNode, pushError, ifSeen, andThen, consumeAt, requireAt}
 use Rattle.parser.specs.Programs.{Reader, Which, Declaration, Prog, give, stop, _>>=_, _>>_, look, check, atEnd, previous, node, link, fail, failAt, consume, require, enterLoop, leaveLoop, insideLoop, inFunction, down, either, restored, run}
 use Rattle.parser.specs.Grammar.{firstOf, body, lower}
 use Rattle.parser.specs.Whole.{Parsed, ends, topLevel, orEnds, ifEnd, statements, parsed}
+use Rattle.parser.proofs.Push.{push-node, push-error}
 
 -- from a errors in E to b errors in E′: the first a are kept, and behind b all is as it was
 pub record ErrorsGrow (a : ℕ) (E : List ℕ) (b : ℕ) (E′ : List ℕ) : Type 0 where
@@ -174,20 +174,16 @@ grown-restored a E b N p (reply q (Node f) F M) h = record { errors = h .errors;
 grown-restored a E b N p (reply q (Stop o) F M) h = record { errors = h .errors; nodes = h .nodes }
 
 grown-push : (d : rows.Node) → Frames (pushNode d)
-unfolding pushNode
-grown-push d p E N = go (ltb (p .nodes) (room nodeWidth N)) refl
-  where
-    go : (b : Bool) → ltb (p .nodes) (room nodeWidth N) ≡ b → Grown (p .errors) E (p .nodes) N (elim b [ true ↦ reply (record { current = p .current; errors = p .errors; nodes = p .nodes + 1; loops = p .loops }) (Node (plain (p .nodes + 1))) E (put nodeWidth N (p .nodes) (nodeWords d)) | false ↦ reply p (Stop 7) E N ])
-    go true e = record { errors = errors-none (p .errors) E; nodes = nodes-put N (p .nodes) (nodeWords d) refl (ltb-true (p .nodes) (room nodeWidth N) e) }
-    go false e = grown-none p p (Stop 7) E N refl refl
+grown-push d p E N =
+    push-node (Grown (p .errors) E (p .nodes) N) d p E N
+    (λ h. record { errors = errors-none (p .errors) E; nodes = nodes-put N (p .nodes) (nodeWords d) refl h })
+    (grown-none p p (Stop 7) E N refl refl)
 
 grown-error : (T : List ℕ) (m i : ℕ) → Frames (pushError T m i)
-unfolding pushError
-grown-error T m i p E N = go (ltb (p .errors) (room errorWidth E)) refl
-  where
-    go : (b : Bool) → ltb (p .errors) (room errorWidth E) ≡ b → Grown (p .errors) E (p .nodes) N (elim b [ true ↦ reply (record { current = p .current; errors = p .errors + 1; nodes = p .nodes; loops = p .loops }) (Node (plain 0)) (put errorWidth E (p .errors) (errorWords (record { message = m; line = lineAt T i; pos = 0 }))) N | false ↦ reply p (Stop 6) E N ])
-    go true e = record { errors = errors-put E (p .errors) (errorWords (record { message = m; line = lineAt T i; pos = 0 })) refl (ltb-true (p .errors) (room errorWidth E) e); nodes = nodes-none (p .nodes) N }
-    go false e = grown-none p p (Stop 6) E N refl refl
+grown-error T m i p E N =
+    push-error (Grown (p .errors) E (p .nodes) N) T m i p E N
+    (λ h. record { errors = errors-put E (p .errors) (errorWords (errorAt T m i)) refl h; nodes = nodes-none (p .nodes) N })
+    (grown-none p p (Stop 6) E N refl refl)
 
 pub grown-consume : (T : List ℕ) (kind m : ℕ) → Frames (consumeAt T kind m)
 unfolding consumeAt
@@ -310,7 +306,7 @@ statements-end (suc f) T first last p E N =
 module _ (T : List ℕ) (errors : ℕ) (E N : List ℕ) where
   pub parsed-frame : Ended errors E 0 N (parsed T errors E N)
   unfolding parsed
-  parsed-frame = statements-end (suc (count T)) T 0 0 (record { current = 0; errors = errors; nodes = 0; loops = 0 }) E N
+  parsed-frame = statements-end (suc (count T)) T 0 0 (freshState errors) E N
 
   -- the errors from before are kept, none is taken away, and behind the last one the table is as it was
   pub parsed-errors-kept : ErrorsGrow errors E (parsed T errors E N .errorCount) (parsed T errors E N .errors)

@@ -5,8 +5,7 @@ use mathlib.Core.List.{List, _++_}
 use mathlib.Core.Logic.{⊎-elim}
 use Prim.Native.Nat.{ℕ, zero, suc, _+_, _-_, _*_, _≤_, _<_}
 use native.Mathlib.Omega.{arith}
-use borrow.Author.Tests.{ltb-true}
-use lib.Dec.{ltb, leb, eqb}
+use lib.Dec.{leb, eqb}
 use lib.ListN.{length, take, drop, set, replicate, length-set, take-append-drop}
 use lib.Seq.{take-set-le, take-set-lt}
 use Rattle.token.specs.Kind.{Newline}
@@ -21,11 +20,12 @@ use Rattle.parser.specs.declared.Got.{Got}
 use Rattle.parser.specs.declared.Got.the-variants.{Node, Stop}
 use Rattle.parser.specs.declared.Seen.{Seen}
 use Rattle.parser.specs.declared.Seen.the-variants.{At, Nothing}
-use Rattle.parser.specs.Tokens.{count, kindAt, lineAt, checkAt, matchesAt}
-use Rattle.parser.specs.Tables.{Reply, reply, moved, looped, plain, pushNode, pushError, ifSeen, andThen, consumeAt, requireAt}
+use Rattle.parser.specs.Tokens.{count, kindAt, checkAt, matchesAt}
+use Rattle.parser.specs.Tables.{Reply, reply, moved, looped, freshState, errorAt, pushNode, pushError, ifSeen, andThen, consumeAt, requireAt}
 use Rattle.parser.specs.Programs.{Reader, Which, Declaration, Prog, give, stop, _>>=_, _>>_, look, check, atEnd, previous, node, link, fail, failAt, consume, require, enterLoop, leaveLoop, insideLoop, inFunction, down, either, restored, run}
 use Rattle.parser.specs.Grammar.{firstOf, body, lower}
 use Rattle.parser.specs.Whole.{Parsed, ends, topLevel, orEnds, ifEnd, statements, parsed}
+use Rattle.parser.proofs.Push.{push-nodes, push-errors}
 use Rattle.parsing.proofs.Frame.{Grown, take-less, top-frames, parsed-errors-kept}
 
 -- as long, and alike in the first e errors and n nodes
@@ -82,35 +82,31 @@ linked-same e n E N E′ N′ r m h = rw (← h .nodes-long) (go (leb 1 r && leb
     go false = h
 
 push-same : (d : rows.Node) → Sized (pushNode d)
-unfolding pushNode
-push-same d p E N E′ N′ h = rw (← h .nodes-long, pushNode) (go (ltb (p .nodes) (room nodeWidth N)) refl)
-  where
-    go : (b : Bool) → ltb (p .nodes) (room nodeWidth N) ≡ b → Same (elim b [ true ↦ reply (record { current = p .current; errors = p .errors; nodes = p .nodes + 1; loops = p .loops }) (Node (plain (p .nodes + 1))) E (put nodeWidth N (p .nodes) (nodeWords d)) | false ↦ reply p (Stop 7) E N ]) (elim b [ true ↦ reply (record { current = p .current; errors = p .errors; nodes = p .nodes + 1; loops = p .loops }) (Node (plain (p .nodes + 1))) E′ (put nodeWidth N′ (p .nodes) (nodeWords d)) | false ↦ reply p (Stop 7) E′ N′ ])
-    go true e =
-        let a : Alike (p .errors) (p .nodes + 1) E (put nodeWidth N (p .nodes) (nodeWords d)) E′ (put nodeWidth N′ (p .nodes) (nodeWords d)) = record {
-          errors-long = h .errors-long;
-          nodes-long = put-long nodeWidth N N′ (p .nodes) (nodeWords d) refl (h .nodes-long);
-          errors-same = h .errors-same;
-          nodes-same = put-same nodeWidth N N′ (p .nodes) (nodeWords d) refl (h .nodes-long) (ltb-true (p .nodes) (room nodeWidth N) e) (h .nodes-same);
-        } in
-        same _ _ _ _ _ _ a
-    go false e = same _ _ _ _ _ _ h
+push-same d p E N E′ N′ h =
+    push-nodes Same d d p p E N E′ N′ refl (room-length nodeWidth N N′ (h .nodes-long))
+    (λ l.
+    let a : Alike (p .errors) (p .nodes + 1) E (put nodeWidth N (p .nodes) (nodeWords d)) E′ (put nodeWidth N′ (p .nodes) (nodeWords d)) = record {
+      errors-long = h .errors-long;
+      nodes-long = put-long nodeWidth N N′ (p .nodes) (nodeWords d) refl (h .nodes-long);
+      errors-same = h .errors-same;
+      nodes-same = put-same nodeWidth N N′ (p .nodes) (nodeWords d) refl (h .nodes-long) l (h .nodes-same);
+    } in
+    same _ _ _ _ _ _ a)
+    (same _ _ _ _ _ _ h)
 
 error-same : (T : List ℕ) (m i : ℕ) → Sized (pushError T m i)
-unfolding pushError
-error-same T m i p E N E′ N′ h = rw (← h .errors-long, pushError) (go (ltb (p .errors) (room errorWidth E)) refl)
-  where
-    go : (b : Bool) → ltb (p .errors) (room errorWidth E) ≡ b → Same (elim b [ true ↦ reply (record { current = p .current; errors = p .errors + 1; nodes = p .nodes; loops = p .loops }) (Node (plain 0)) (put errorWidth E (p .errors) (errorWords (record { message = m; line = lineAt T i; pos = 0 }))) N | false ↦ reply p (Stop 6) E N ]) (elim b [ true ↦ reply (record { current = p .current; errors = p .errors + 1; nodes = p .nodes; loops = p .loops }) (Node (plain 0)) (put errorWidth E′ (p .errors) (errorWords (record { message = m; line = lineAt T i; pos = 0 }))) N′ | false ↦ reply p (Stop 6) E′ N′ ])
-    go true e =
-        let ws = errorWords (record { message = m; line = lineAt T i; pos = 0 }) in
-        let a : Alike (p .errors + 1) (p .nodes) (put errorWidth E (p .errors) ws) N (put errorWidth E′ (p .errors) ws) N′ = record {
-          errors-long = put-long errorWidth E E′ (p .errors) ws refl (h .errors-long);
-          nodes-long = h .nodes-long;
-          errors-same = put-same errorWidth E E′ (p .errors) ws refl (h .errors-long) (ltb-true (p .errors) (room errorWidth E) e) (h .errors-same);
-          nodes-same = h .nodes-same;
-        } in
-        same _ _ _ _ _ _ a
-    go false e = same _ _ _ _ _ _ h
+error-same T m i p E N E′ N′ h =
+    push-errors Same T T m i p p E N E′ N′ refl (room-length errorWidth E E′ (h .errors-long))
+    (λ l.
+    let ws = errorWords (errorAt T m i) in
+    let a : Alike (p .errors + 1) (p .nodes) (put errorWidth E (p .errors) ws) N (put errorWidth E′ (p .errors) ws) N′ = record {
+      errors-long = put-long errorWidth E E′ (p .errors) ws refl (h .errors-long);
+      nodes-long = h .nodes-long;
+      errors-same = put-same errorWidth E E′ (p .errors) ws refl (h .errors-long) l (h .errors-same);
+      nodes-same = h .nodes-same;
+    } in
+    same _ _ _ _ _ _ a)
+    (same _ _ _ _ _ _ h)
 
 consume-same : (T : List ℕ) (kind m : ℕ) → Sized (consumeAt T kind m)
 unfolding consumeAt
@@ -203,7 +199,7 @@ pub parsed-sizes : (T : List ℕ) (errors : ℕ) (E N E′ N′ : List ℕ) → 
     → SameParsed (parsed T errors E N) (parsed T errors E′ N′)
 unfolding parsed
 parsed-sizes T errors E N E′ N′ l m e =
-    statements-sized (suc (count T)) T 0 0 (record { current = 0; errors = errors; nodes = 0; loops = 0 }) E N E′ N′
+    statements-sized (suc (count T)) T 0 0 (freshState errors) E N E′ N′
     (record { errors-long = l; nodes-long = m; errors-same = e; nodes-same = refl })
 
 -- ---- what the node table held before does not matter at all

@@ -6,8 +6,7 @@ use Prim.Native.Nat.{ℕ, zero, suc, _+_, _-_, _≤_, _<_}
 use native.Mathlib.Omega.{arith}
 use lib.Dec.{leb, ltb, eqb}
 use Rattle.token.specs.Kind.{Newline, RightParen, RightBrace}
-use Rattle.records.specs.Table.{room, put, linked, errorWidth, nodeWidth}
-use Rattle.records.specs.Words.{errorWords, nodeWords}
+use Rattle.records.specs.Table.{linked}
 use Rattle.records.specs.declared.Node as rows
 use Rattle.parser.specs.declared.State.{State}
 use Rattle.parser.specs.declared.Form.{Form}
@@ -16,11 +15,12 @@ use Rattle.parser.specs.declared.Found.{Found}
 use Rattle.parser.specs.declared.Got.the-variants.{Node, Stop}
 use Rattle.parser.specs.declared.Seen.{Seen}
 use Rattle.parser.specs.declared.Seen.the-variants.{At, Nothing}
-use Rattle.parser.specs.Tokens.{count, kindAt, lineAt, checkAt, matchesAt}
-use Rattle.parser.specs.Tables.{Reply, reply, moved, looped, plain, pushNode, pushError, ifSeen, andThen, consumeAt, requireAt}
+use Rattle.parser.specs.Tokens.{count, kindAt, checkAt, matchesAt}
+use Rattle.parser.specs.Tables.{Reply, reply, moved, looped, freshState, pushNode, pushError, ifSeen, andThen, consumeAt, requireAt}
 use Rattle.parser.specs.Programs.{Reader, Which, Declaration, Assignment, Operand, Prog, give, stop, _>>=_, _>>_, look, check, atEnd, previous, node, link, fail, failAt, consume, require, enterLoop, leaveLoop, insideLoop, inFunction, down, either, restored, run}
 use Rattle.parser.specs.Grammar.{firstOf, property, when, assigned, Level, levels, fuel, blockFrom, block, expressionStmt, parametersFrom, parameters, functionBody, fnStmt, fnExpr, methodsFrom, class, letStmt, namesFrom, enhancedFor, classicFor, forLoop, tryCatch, elifsFrom, elseFrom, ifStmt, ret, brk, cont, whileStmt, statement, declaration, argumentsFrom, arguments, list, dictElementsFrom, dictionary, closed, access, superExpr, primary, finishCall, callFrom, call, unary, lookMany, binaryFrom, binary, assignment, body, lower}
 use Rattle.parser.specs.Whole.{Parsed, topLevel, orEnds, ifEnd, statements, parsed}
+use Rattle.parser.proofs.Push.{push-node, push-error}
 use Rattle.progress.proofs.Leaf.{check-at, matches-on, matches-at}
 use Rattle.progress.proofs.Moves.{Past, MovesOn, past-then, past-consume, moves, stays, moves-on, binary-moves, lower-moves, never}
 
@@ -395,20 +395,10 @@ left-restored p (reply q (Node f) E N) h = record { left = tt }
 left-restored p (reply q (Stop o) E N) h = record { left = h .left }
 
 left-push : (d : rows.Node) (p : State) (E N : List ℕ) → Left (pushNode d p E N)
-unfolding pushNode
-left-push d p E N = go (ltb (p .nodes) (room nodeWidth N))
-  where
-    go : (b : Bool) → Left (elim b [ true ↦ reply (record { current = p .current; errors = p .errors; nodes = p .nodes + 1; loops = p .loops }) (Node (plain (p .nodes + 1))) E (put nodeWidth N (p .nodes) (nodeWords d)) | false ↦ reply p (Stop 7) E N ])
-    go true = record { left = tt }
-    go false = record { left = omega arith }
+left-push d p E N = push-node Left d p E N (λ _. record { left = tt }) (record { left = omega arith })
 
 left-error : (T : List ℕ) (m i : ℕ) (p : State) (E N : List ℕ) → Left (pushError T m i p E N)
-unfolding pushError
-left-error T m i p E N = go (ltb (p .errors) (room errorWidth E))
-  where
-    go : (b : Bool) → Left (elim b [ true ↦ reply (record { current = p .current; errors = p .errors + 1; nodes = p .nodes; loops = p .loops }) (Node (plain 0)) (put errorWidth E (p .errors) (errorWords (record { message = m; line = lineAt T i; pos = 0 }))) N | false ↦ reply p (Stop 6) E N ])
-    go true = record { left = tt }
-    go false = record { left = omega arith }
+left-error T m i p E N = push-error Left T m i p E N (λ _. record { left = tt }) (record { left = omega arith })
 
 left-consume : (T : List ℕ) (kind m : ℕ) (p : State) (E N : List ℕ) → Left (consumeAt T kind m p E N)
 unfolding consumeAt
@@ -484,4 +474,4 @@ statements-fed (suc n) T first last p E N l = ended-if (eqb (kindAt T (p .curren
 -- no parsing ends with outcome 99
 pub parsed-never-spent : (T : List ℕ) (e : ℕ) (E N : List ℕ) → parsed T e E N .outcome ≡ 99 → ⊥
 unfolding parsed
-parsed-never-spent T e E N s = let h = statements-fed (suc (count T)) T 0 0 (record { current = 0; errors = e; nodes = 0; loops = 0 }) E N (omega arith) .below in omega arith
+parsed-never-spent T e E N s = let h = statements-fed (suc (count T)) T 0 0 (freshState e) E N (omega arith) .below in omega arith

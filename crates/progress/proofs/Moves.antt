@@ -2,11 +2,9 @@
 use mathlib.Core.Path.{_≡_, refl, subst}
 use mathlib.Core.List.{List, [], _∷_}
 use mathlib.Core.Bool.{Bool, true, false, _&&_, _||_}
-use Prim.Native.Nat.{ℕ, zero, suc, _+_, _-_, _≤_, _<_}
+use Prim.Native.Nat.{ℕ, zero, suc, _-_, _≤_, _<_}
 use native.Mathlib.Omega.{arith}
-use lib.Dec.{ltb, eqb}
-use Rattle.records.specs.Table.{room, put, errorWidth, nodeWidth}
-use Rattle.records.specs.Words.{errorWords, nodeWords}
+use lib.Dec.{eqb}
 use Rattle.records.specs.declared.Node as rows
 use Rattle.parser.specs.declared.State.{State}
 use Rattle.parser.specs.declared.Found.{Found}
@@ -14,10 +12,11 @@ use Rattle.parser.specs.declared.Got.{Got}
 use Rattle.parser.specs.declared.Got.the-variants.{Node, Stop}
 use Rattle.parser.specs.declared.Seen.{Seen}
 use Rattle.parser.specs.declared.Seen.the-variants.{At, Nothing}
-use Rattle.parser.specs.Tokens.{count, kindAt, lineAt, matchesAt}
-use Rattle.parser.specs.Tables.{Reply, reply, moved, looped, plain, pushNode, pushError, ifSeen, andThen, consumeAt, requireAt}
+use Rattle.parser.specs.Tokens.{count, kindAt, matchesAt}
+use Rattle.parser.specs.Tables.{Reply, reply, moved, looped, pushNode, pushError, ifSeen, andThen, consumeAt, requireAt}
 use Rattle.parser.specs.Programs.{Reader, Which, Declaration, Assignment, Operand, Prog, give, stop, _>>=_, _>>_, look, check, atEnd, previous, node, link, fail, failAt, consume, require, enterLoop, leaveLoop, insideLoop, inFunction, down, either, restored, run}
 use Rattle.parser.specs.Grammar.{expressionStmt, statement, declaration, primary, call, unary, binary, assignment, body, lower, Level}
+use Rattle.parser.proofs.Push.{push-node, push-error}
 use Rattle.progress.proofs.Leaf.{check-at, matches-on, matches-at}
 
 -- where a node is given, the reading is at a or further on, and c holds; where it stops, it is at z or further on
@@ -54,20 +53,10 @@ past-restored z a c p (reply q (Node f) E N) h = record { past = h .past }
 past-restored z a c p (reply q (Stop o) E N) h = record { past = h .past }
 
 past-push : (z a : ℕ) (c : Type 0) (d : rows.Node) (p : State) (E N : List ℕ) → z ≤ p .current → a ≤ p .current → c → Past z a c (pushNode d p E N)
-unfolding pushNode
-past-push z a c d p E N y h g = go (ltb (p .nodes) (room nodeWidth N))
-  where
-    go : (b : Bool) → Past z a c (elim b [ true ↦ reply (record { current = p .current; errors = p .errors; nodes = p .nodes + 1; loops = p .loops }) (Node (plain (p .nodes + 1))) E (put nodeWidth N (p .nodes) (nodeWords d)) | false ↦ reply p (Stop 7) E N ])
-    go true = record { past = (h, g) }
-    go false = record { past = y }
+past-push z a c d p E N y h g = push-node (Past z a c) d p E N (λ _. record { past = (h, g) }) (record { past = y })
 
 past-error : (z a : ℕ) (c : Type 0) (T : List ℕ) (m i : ℕ) (p : State) (E N : List ℕ) → z ≤ p .current → a ≤ p .current → c → Past z a c (pushError T m i p E N)
-unfolding pushError
-past-error z a c T m i p E N y h g = go (ltb (p .errors) (room errorWidth E))
-  where
-    go : (b : Bool) → Past z a c (elim b [ true ↦ reply (record { current = p .current; errors = p .errors + 1; nodes = p .nodes; loops = p .loops }) (Node (plain 0)) (put errorWidth E (p .errors) (errorWords (record { message = m; line = lineAt T i; pos = 0 }))) N | false ↦ reply p (Stop 6) E N ])
-    go true = record { past = (h, g) }
-    go false = record { past = y }
+past-error z a c T m i p E N y h g = push-error (Past z a c) T m i p E N (λ _. record { past = (h, g) }) (record { past = y })
 
 pub past-consume : (z a : ℕ) (c : Type 0) (T : List ℕ) (kind m : ℕ) (p : State) (E N : List ℕ) → z ≤ p .current → a ≤ p .current → c → Past z a c (consumeAt T kind m p E N)
 unfolding consumeAt

@@ -5,12 +5,12 @@ use mathlib.Core.Bool.{Bool, true, false}
 use mathlib.Core.Logic.{_⊎_, inl, inr}
 use Prim.Native.Nat.{ℕ, zero, suc, _+_, _-_, _*_, _≤_, _<_}
 use native.Mathlib.Omega.{arith}
-use lib.Dec.{ltb, eqb}
-use borrow.Author.Tests.{ltb-true, eqb-true, eqb-false}
+use lib.Dec.{eqb}
+use borrow.Author.Tests.{eqb-true, eqb-false}
 use lib.ListN.{length, getD, set, length-set}
 use lib.Seq.{getD-set-same, getD-set-other}
-use Rattle.records.specs.Table.{room, put, field, linked, nodeWidth, errorWidth}
-use Rattle.records.specs.Words.{nodeWords, errorWords}
+use Rattle.records.specs.Table.{room, put, field, linked}
+use Rattle.records.specs.Words.{nodeWords}
 use Rattle.records.specs.declared.Node as rows
 use Rattle.records.proofs.Room.{lt-or-le, room-fits, room-length}
 use Rattle.records.proofs.Put.{put-length}
@@ -23,10 +23,11 @@ use Rattle.parser.specs.declared.Found.{Found}
 use Rattle.parser.specs.declared.Got.the-variants.{Node, Stop}
 use Rattle.parser.specs.declared.Seen.{Seen}
 use Rattle.parser.specs.declared.Seen.the-variants.{At, Nothing}
-use Rattle.parser.specs.Tokens.{count, kindAt, lineAt, after, skipFrom, skipLines, seenIf, checkAt, matchesAt}
+use Rattle.parser.specs.Tokens.{count, kindAt, after, skipFrom, skipLines, seenIf, checkAt, matchesAt}
 use Rattle.parser.specs.Tables.{Reply, reply, moved, looped, plain, pushNode, pushError, ifSeen, andThen, consumeAt, requireAt}
 use Rattle.parser.specs.Programs.{Reader, Which, Declaration, Assignment, Operand, Prog, give, stop, _>>=_, _>>_, look, check, atEnd, previous, node, link, fail, failAt, consume, require, enterLoop, leaveLoop, insideLoop, inFunction, down, either, restored, run}
 use Rattle.parser.specs.Grammar.{body, lower}
+use Rattle.parser.proofs.Push.{push-node, push-error}
 use Rattle.trees.specs.Trees.{Sort, Expression, Statement, Index, tightOf, Child, Formed, Forest}
 use Rattle.trees.proofs.TreeRows.{Agree, formed-keep, Later, Made, Linked, Behind, forest-join, forest-none, forest-made, forest-link}
 
@@ -260,28 +261,20 @@ module _ (T : List ℕ) where
   state-moved i h st = record { low = st .low; fits = st .fits; cursor = h; forest = st .forest }
 
   done-push : (b : ℕ) (R : Found → ℕ → List ℕ → Type 0) (d : rows.Node) (p : State) (E N : List ℕ) → Stands b (p .nodes) (p .current) N → Wp b (node d) R (p .nodes) N → Done b R N (pushNode d p E N)
-  unfolding pushNode
-  done-push b R d p E N st w = go (ltb (p .nodes) (room nodeWidth N)) refl
-    where
-      go : (t : Bool) → ltb (p .nodes) (room nodeWidth N) ≡ t → Done b R N (elim t [ true ↦ reply (record { current = p .current; errors = p .errors; nodes = p .nodes + 1; loops = p .loops }) (Node (plain (p .nodes + 1))) E (put nodeWidth N (p .nodes) (nodeWords d)) | false ↦ reply p (Stop 7) E N ])
-      go true e =
-          let h = ltb-true (p .nodes) (room nodeWidth N) e in
-          let m = put-made N (p .nodes) d (w .1) h in
-          let l = st .low in
-          let long : length (put 9 N (p .nodes) (nodeWords d)) ≡ length N = put-length 9 N (p .nodes) (nodeWords d) refl in
-          let same = room-length 9 (put 9 N (p .nodes) (nodeWords d)) N long in
-          let kept : Kept b N (put 9 N (p .nodes) (nodeWords d)) = record { same = λ i k y z c. m .later .same i k y (omega arith) c; long = long } in
-          let st′ : Stands b (p .nodes + 1) (p .current) (put 9 N (p .nodes) (nodeWords d)) = record { low = omega arith; fits = omega arith; cursor = st .cursor; forest = forest-made T b (p .nodes) N (put 9 N (p .nodes) (nodeWords d)) d l (st .forest) (w .0) m } in
-          record { done = (kept, st′, w .2 (put 9 N (p .nodes) (nodeWords d)) m) }
-      go false e = record { done = kept-all b N }
+  done-push b R d p E N st w =
+      push-node (Done b R N) d p E N
+      (λ h.
+      let m = put-made N (p .nodes) d (w .1) h in
+      let l = st .low in
+      let long : length (put 9 N (p .nodes) (nodeWords d)) ≡ length N = put-length 9 N (p .nodes) (nodeWords d) refl in
+      let same = room-length 9 (put 9 N (p .nodes) (nodeWords d)) N long in
+      let kept : Kept b N (put 9 N (p .nodes) (nodeWords d)) = record { same = λ i k y z c. m .later .same i k y (omega arith) c; long = long } in
+      let st′ : Stands b (p .nodes + 1) (p .current) (put 9 N (p .nodes) (nodeWords d)) = record { low = omega arith; fits = omega arith; cursor = st .cursor; forest = forest-made T b (p .nodes) N (put 9 N (p .nodes) (nodeWords d)) d l (st .forest) (w .0) m } in
+      record { done = (kept, st′, w .2 (put 9 N (p .nodes) (nodeWords d)) m) })
+      (record { done = kept-all b N })
 
   done-error : (b : ℕ) (R : Found → ℕ → List ℕ → Type 0) (message i : ℕ) (p : State) (E N : List ℕ) → Stands b (p .nodes) (p .current) N → R (plain 0) (p .nodes) N → Done b R N (pushError T message i p E N)
-  unfolding pushError
-  done-error b R message i p E N st w = go (ltb (p .errors) (room errorWidth E))
-    where
-      go : (t : Bool) → Done b R N (elim t [ true ↦ reply (record { current = p .current; errors = p .errors + 1; nodes = p .nodes; loops = p .loops }) (Node (plain 0)) (put errorWidth E (p .errors) (errorWords (record { message = message; line = lineAt T i; pos = 0 }))) N | false ↦ reply p (Stop 6) E N ])
-      go true = record { done = (kept-all b N, st, w) }
-      go false = record { done = kept-all b N }
+  done-error b R message i p E N st w = push-error (Done b R N) T message i p E N (λ _. record { done = (kept-all b N, st, w) }) (record { done = kept-all b N })
 
   -- a reader one level down
   abbrev pub Reads : Sort → ℕ → Reader → Type 0

@@ -16,7 +16,7 @@ use Rattle.parser.specs.declared.State.{State}
 use Rattle.parser.specs.declared.Found.{Found}
 use Rattle.parser.specs.declared.Got.the-variants.{Node, Stop}
 use Rattle.parser.specs.Tokens.{count, kindAt}
-use Rattle.parser.specs.Tables.{Reply, reply, consumeAt}
+use Rattle.parser.specs.Tables.{Reply, reply, freshState, consumeAt}
 use Rattle.parser.specs.Programs.{Which, Declaration, consume, run}
 use Rattle.parser.specs.Grammar.{firstOf, lower}
 use Rattle.parser.specs.Whole.{Parsed, topLevel, orEnds, ifEnd, statements, parsed}
@@ -81,7 +81,7 @@ statements-tree (suc f) T first last p E N st s = end-tree T (eqb (kindAt T (p .
 -- the kept nodes of every parsing are well-formed trees, whatever the tokens and however long the tables
 pub parsed-tree : (T : List ℕ) (errors : ℕ) (E N : List ℕ) → Whole T (parsed T errors E N)
 unfolding parsed
-parsed-tree T errors E N = statements-tree (suc (count T)) T 0 0 (record { current = 0; errors = errors; nodes = 0; loops = 0 }) E N (record { low = omega arith; fits = omega arith; cursor = omega arith; forest = forest-none T 0 N }) (inl (refl, refl))
+parsed-tree T errors E N = statements-tree (suc (count T)) T 0 0 (freshState errors) E N (record { low = omega arith; fits = omega arith; cursor = omega arith; forest = forest-none T 0 N }) (inl (refl, refl))
 
 -- ---- what that says of each child and each member of its list
 abbrev Sound : List ℕ → ℕ → Column → ℕ → Type 0

@@ -8,8 +8,6 @@ use Prim.Native.Nat.{ℕ, zero, suc, _+_, _-_, _≤_}
 use native.Mathlib.Omega.{arith}
 use lib.Dec.{leb, ltb, eqb}
 use Rattle.token.specs.Kind.{Newline, RightParen, RightBrace}
-use Rattle.records.specs.Table.{room, put, errorWidth, nodeWidth}
-use Rattle.records.specs.Words.{errorWords, nodeWords}
 use Rattle.records.specs.declared.Node as rows
 use Rattle.parser.specs.declared.State.{State}
 use Rattle.parser.specs.declared.Form.{Form}
@@ -19,11 +17,12 @@ use Rattle.parser.specs.declared.Got.{Got}
 use Rattle.parser.specs.declared.Got.the-variants.{Node, Stop}
 use Rattle.parser.specs.declared.Seen.{Seen}
 use Rattle.parser.specs.declared.Seen.the-variants.{At, Nothing}
-use Rattle.parser.specs.Tokens.{kindAt, lineAt, matchesAt}
-use Rattle.parser.specs.Tables.{Reply, reply, moved, looped, plain, pushNode, pushError, ifSeen, andThen, consumeAt, requireAt}
+use Rattle.parser.specs.Tokens.{kindAt, matchesAt}
+use Rattle.parser.specs.Tables.{Reply, reply, moved, looped, pushNode, pushError, ifSeen, andThen, consumeAt, requireAt}
 use Rattle.parser.specs.Programs.{Reader, Which, Declaration, Assignment, Operand, Prog, give, stop, _>>=_, _>>_, look, check, atEnd, previous, node, link, fail, failAt, consume, require, enterLoop, leaveLoop, insideLoop, inFunction, down, either, restored, raised, run}
 use Rattle.parser.specs.Grammar.{firstOf, property, when, assigned, Level, levels, fuel, blockFrom, block, expressionStmt, parametersFrom, parameters, functionBody, fnStmt, fnExpr, methodsFrom, class, letStmt, namesFrom, enhancedFor, classicFor, forLoop, tryCatch, elifsFrom, elseFrom, ifStmt, ret, brk, cont, whileStmt, statement, declaration, argumentsFrom, arguments, list, dictElementsFrom, dictionary, closed, access, superExpr, primary, finishCall, callFrom, call, unary, lookMany, binaryFrom, binary, assignment, body, lower}
 use Rattle.parser.specs.Whole.{topLevel}
+use Rattle.parser.proofs.Push.{push-node, push-error}
 use Rattle.progress.proofs.Leaf.{check-at, matches-on, matches-at}
 use Rattle.progress.proofs.Moves.{Past, MovesOn, stays, lower-moves}
 
@@ -288,20 +287,10 @@ low-restored p (reply q (Node f) E N) l h = let u = h .past .0 in record { low =
 low-restored p (reply q (Stop o) E N) l h = record { low = tt }
 
 low-push : (d : rows.Node) → StaysLow (pushNode d)
-unfolding pushNode
-low-push d p E N l = go (ltb (p .nodes) (room nodeWidth N))
-  where
-    go : (b : Bool) → Low (elim b [ true ↦ reply (record { current = p .current; errors = p .errors; nodes = p .nodes + 1; loops = p .loops }) (Node (plain (p .nodes + 1))) E (put nodeWidth N (p .nodes) (nodeWords d)) | false ↦ reply p (Stop 7) E N ])
-    go true = record { low = l }
-    go false = record { low = tt }
+low-push d p E N l = push-node Low d p E N (λ _. record { low = l }) (record { low = tt })
 
 low-error : (T : List ℕ) (m i : ℕ) → StaysLow (pushError T m i)
-unfolding pushError
-low-error T m i p E N l = go (ltb (p .errors) (room errorWidth E))
-  where
-    go : (b : Bool) → Low (elim b [ true ↦ reply (record { current = p .current; errors = p .errors + 1; nodes = p .nodes; loops = p .loops }) (Node (plain 0)) (put errorWidth E (p .errors) (errorWords (record { message = m; line = lineAt T i; pos = 0 }))) N | false ↦ reply p (Stop 6) E N ])
-    go true = record { low = l }
-    go false = record { low = tt }
+low-error T m i p E N l = push-error Low T m i p E N (λ _. record { low = l }) (record { low = tt })
 
 low-consume : (T : List ℕ) (kind m : ℕ) → StaysLow (consumeAt T kind m)
 unfolding consumeAt

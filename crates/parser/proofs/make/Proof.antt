@@ -9,17 +9,14 @@ use Rattle.parser.proofs.make.Tie as tie
 push-node-requires : tie.Need-push-node-requires
 push-node-requires c κs = search needs
 
-add-t8 : tie.Need-add-t8
-add-t8 c =
+add-m : tie.Need-add-m
+add-m c =
     let a = c .before .before .before .before .before .before .args in
     let h : a .p .nodes < 4294967295 = counted 9 (a .nodes .now) (a .p .nodes) _ (c .before .before .before .push-node .ensures .answer) (c .if1 .taken) in
     omega arith
 
-add-gives : tie.Need-add-gives
-add-gives c =
-    let a = c .before .before .before .before .before .before .args in
-    let h : a .p .nodes < 4294967295 = counted 9 (a .nodes .now) (a .p .nodes) _ (c .before .before .before .push-node .ensures .answer) (c .if1 .taken) in
-    omega arith
+with-nodes-requires : tie.Need-with-nodes-requires
+with-nodes-requires c κs = search needs
 
 gives-requires : tie.Need-gives-requires
 gives-requires c κs = search needs
@@ -29,8 +26,8 @@ same-length c = search needs
 
 returns : tie.Need-returns
 returns c = λ E.
-    let a = c .before .before .before .before .before .before .before .args in
-    node-made (a .d) (a .p) E (a .nodes .now) _ _ (c .gives .result) (c .before .before .before .before .push-node .ensures) (c .before .if1 .taken) (c .gives .ensures)
+    let a = c .before .before .before .before .before .before .before .before .args in
+    node-made (a .d) (a .p) E (a .nodes .now) _ _ (c .gives .result) (c .before .before .before .before .before .push-node .ensures) _ (c .before .before .if1 .taken) (c .before .with-nodes .ensures) (c .gives .ensures)
 
 stopped-requires : tie.Need-stopped-requires
 stopped-requires c κs = search needs
@@ -48,8 +45,8 @@ make-spec =
     tie.close
     (tie.spec
     push-node-requires
-    add-t8
-    add-gives
+    add-m
+    with-nodes-requires
     gives-requires
     same-length
     returns
