@@ -5,7 +5,7 @@ use std::env;
 use std::process::{Command, Stdio};
 use std::thread;
 
-use readings::scripts::around;
+use expected::scripts::around;
 
 use crate::ours::{Library, Tables};
 

@@ -6,7 +6,7 @@ use std::slice;
 use crate::dice::Dice;
 use crate::host::{Answer, DecodeAnswer, DecodeCall, Host, LexAnswer, LexCall, ReadCall, Request};
 use crate::whole::{read_differs, Wanted};
-use readings::lexing::{expect, Decoding, Error, Expected, Lexing, Token};
+use expected::lexing::{expect, Decoding, Error, Expected, Lexing, Token};
 
 /// A source and the calls to make with it.
 #[derive(Debug, Clone)]

@@ -10,7 +10,7 @@ use std::collections::BTreeMap;
 use kettleplume::border::{Answer, Parser};
 
 use crate::dice::Dice;
-use crate::reads::Scripts;
+use crate::parse_scripts::Scripts;
 
 /// A parser and what is lent beside it.
 #[derive(Debug, Clone, PartialEq)]

@@ -1,14 +1,14 @@
 //! Whole readings at their limits: rooms, levels, counts and lengths.
 
-use oracle::logged::LEVELS;
-use readings::lexing::LONGEST;
-use readings::scripts::{
+use expected::lexing::LONGEST;
+use expected::scripts::{
     around, many, LEFT_OF_EQUAL, MESSAGES, MORE_WAYS, NEWLINES, SMALL, STARS, UNSTARRED, WAYS,
     WORKED,
 };
+use oracle::logged::LEVELS;
 
 use crate::compare::Trial;
-use crate::scripts::{KEYWORDS, MARKS, WRONG};
+use crate::lex_scripts::{KEYWORDS, MARKS, WRONG};
 use crate::whole::Tried;
 
 /// So many pairs of error and node rooms are all tried; of more, some.
@@ -271,8 +271,8 @@ pub fn refusals(source: &[u8]) -> Trial {
 #[cfg(test)]
 mod tests {
     use super::*;
+    use expected::whole::Whole;
     use oracle::on_large_stack;
-    use readings::whole::Whole;
 
     fn outcome(script: Vec<u8>) -> u32 {
         let script = String::from_utf8(script).expect("ASCII");

@@ -3,9 +3,9 @@
 
 use std::iter::repeat_n;
 
-use readings::lexing::{Lexing, LONGEST};
-use readings::scripts::around;
-use readings::whole::Answer;
+use expected::lexing::{Lexing, LONGEST};
+use expected::scripts::around;
+use expected::whole::Answer;
 
 use crate::compare::Trial;
 use crate::whole::Tried;
@@ -103,7 +103,7 @@ fn sets_come_to(source: &[u8]) -> Answer {
 #[cfg(test)]
 mod tests {
     use super::*;
-    use readings::whole::Whole;
+    use expected::whole::Whole;
 
     /// What the original makes of a script.
     fn original(source: &[u8]) -> Answer {

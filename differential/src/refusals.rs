@@ -4,7 +4,7 @@
 use crate::compare::{Call, Trial, Want};
 use crate::dice::Dice;
 use crate::host::{DecodeCall, LexCall};
-use readings::lexing::{expect, expect_decoding, Expected, Lexing, LONGEST};
+use expected::lexing::{expect, expect_decoding, Expected, Lexing, LONGEST};
 
 /// One lexing with each room from none to one more than is needed: for tokens with every spare
 /// tail and enough room for errors, the other way round, and both short at once.

@@ -3,7 +3,7 @@
 use std::fmt::Write as _;
 
 use crate::host::{Answer, DecodeCall, Host, LexAnswer, LexCall, Request};
-use readings::lexing::{Error, Token, LONGEST};
+use expected::lexing::{Error, Token, LONGEST};
 
 /// The outcome, the tokens and the errors.
 pub fn show(host: &mut Host, source: &[u8]) -> Result<String, String> {

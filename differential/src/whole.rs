@@ -3,10 +3,10 @@
 use std::fmt::Write as _;
 use std::rc::Rc;
 
+use expected::lexing::{Error, Token};
+use expected::nodes::Node;
+use expected::whole::{known, Answer, Known, Whole};
 use kettleplume::Rooms;
-use readings::lexing::{Error, Token};
-use readings::nodes::Node;
-use readings::whole::{known, Answer, Known, Whole};
 
 use crate::compare::{table_differs, Call, Trial};
 use crate::dice::Dice;

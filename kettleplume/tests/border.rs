@@ -3,10 +3,10 @@
 
 use std::ops::Range;
 
+use expected::lexing::{expect, expect_decoding, Expected};
+use expected::whole::{self, known, Known};
 use kettleplume::border::{decode, read, scan, Answer, Decoded, Parser};
 use kettleplume::tables::{ERROR_WORDS, NODE_WORDS, TOKEN_WORDS};
-use readings::lexing::{expect, expect_decoding, Expected};
-use readings::whole::{self, known, Known};
 
 /// What stood in a table before.
 const BEFORE: u32 = 0x5a5a_5a5a;

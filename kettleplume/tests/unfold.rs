@@ -1,8 +1,8 @@
 //! Tables of any words unfold to something or to an error: none leads out of itself or in a circle.
 
+use expected::dice::Dice;
 use kettleplume::token::{Literal, Token, TokenData};
 use kettleplume::unfold::{statements, statements_within, Node};
-use readings::dice::Dice;
 
 /// Tokens for nodes to refer to: a name, a number, `nil`.
 fn tokens() -> Vec<TokenData> {

@@ -8,8 +8,8 @@ pub(crate) mod judge;
 mod scripts;
 
 use crate::sheet::{hex, Sheet};
+use expected::dice::Dice;
 use judge::{ERROR_WIDTH, TOKEN_WIDTH};
-use readings::dice::Dice;
 
 /// The most words of a table.
 const MOST_WORDS: usize = 4096;

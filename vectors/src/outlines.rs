@@ -3,14 +3,14 @@
 //! the script is no text, the outcome and what is kept follow document 01 and stand beside the
 //! script.
 
-use std::path::{Path, PathBuf};
+use std::path::PathBuf;
 use std::{fs, iter};
 
 use oracle::on_large_stack;
 
 use crate::definition::{case, End, Script};
+use crate::folders::{path, root, OUTCOMES};
 use crate::lexing::judge::token_words;
-use crate::sheet::path;
 
 /// The most bytes that `outline` has room for, and its rooms for tokens, errors and nodes.
 const MOST_BYTES: usize = 4096;
@@ -107,8 +107,7 @@ pub fn endings() -> Vec<Ending> {
 
 /// The repository's example scripts, in the order of their names.
 pub fn examples() -> Vec<PathBuf> {
-    let folder = Path::new(env!("CARGO_MANIFEST_DIR")).join("../examples");
-    let mut scripts: Vec<PathBuf> = fs::read_dir(folder)
+    let mut scripts: Vec<PathBuf> = fs::read_dir(root().join("examples"))
         .expect("the folder is there")
         .map(|entry| entry.expect("an entry").path())
         .filter(|path| path.extension().is_some_and(|e| e == "gr"))
@@ -131,11 +130,8 @@ pub fn files() -> Vec<(PathBuf, Vec<u8>)> {
     assert!(scripts.len() <= 26, "a letter for each");
     for (letter, ending) in ('a'..='z').zip(scripts) {
         stdout += &outline(&ending.script, ending.ends);
-        files.push((
-            path("outcomes", &format!("data/{letter}.gr")),
-            ending.script,
-        ));
+        files.push((path(OUTCOMES, &format!("data/{letter}.gr")), ending.script));
     }
-    files.push((path("outcomes", "stdout"), stdout.into_bytes()));
+    files.push((path(OUTCOMES, "stdout"), stdout.into_bytes()));
     files
 }

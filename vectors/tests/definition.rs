@@ -4,13 +4,13 @@
 use std::collections::BTreeSet;
 use std::fs;
 use vectors::definition::files;
-use vectors::sheet::path;
+use vectors::folders::{path, SCRIPTS};
 
 #[test]
 fn stored_theorems_are_made_by_the_generator() {
     for file in files() {
         let name = format!("proofs/{}.antt", file.name);
-        let stored = fs::read_to_string(path("scripts", &name)).expect("the file is there");
+        let stored = fs::read_to_string(path(SCRIPTS, &name)).expect("the file is there");
         assert!(
             stored == file.text(),
             "{name} differs: run `cargo run -p vectors -- definition`"

@@ -15,8 +15,8 @@ use std::fmt::{self, Write as _};
 use crate::dice::Dice;
 use crate::host::{Answer, Host, ReadCall, Request};
 use change::{any_first, broken, changed, exchanged};
+use expected::lexing::is_text;
 use premise::{permitted, Clause, CLAUSES};
-use readings::lexing::is_text;
 use tables::Tables;
 
 /// So many pairs are given to the library at a time.

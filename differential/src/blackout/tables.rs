@@ -1,6 +1,6 @@
 //! A reading as words: the answer and the kept records of each table.
 
-use readings::lexing::{expect, Expected};
+use expected::lexing::{expect, Expected};
 
 use crate::host::ReadAnswer;
 

@@ -10,12 +10,12 @@ mod scripts;
 use std::fmt::Write as _;
 use std::{fs, io};
 
+use expected::dice::Dice;
+use expected::maker::Maker;
+use expected::whole::{known, Known, Whole};
 use oracle::on_large_stack;
-use readings::dice::Dice;
-use readings::grammar::Maker;
-use readings::whole::{known, Known, Whole};
 
-use crate::sheet::path;
+use crate::folders::{path, SCRIPTS};
 
 /// A script; a character is a byte.
 pub struct Script {
@@ -155,7 +155,7 @@ impl File {
 
     pub fn write(&self) -> io::Result<()> {
         let file = format!("proofs/{}.antt", self.name);
-        fs::write(path("scripts", &file), self.text())
+        fs::write(path(SCRIPTS, &file), self.text())
     }
 }
 

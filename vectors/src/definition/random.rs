@@ -1,9 +1,9 @@
 //! Random scripts for theorems, some of them with tables that are too small.
 
 use super::{End, Script};
+use expected::maker::Maker;
+use expected::whole::Whole;
 use oracle::{read, Stop};
-use readings::grammar::Maker;
-use readings::whole::Whole;
 
 /// The next script.
 pub fn script(maker: &mut Maker) -> Script {

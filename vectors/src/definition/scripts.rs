@@ -1,9 +1,9 @@
 //! The scripts of each file.
 
-use oracle::{on_large_stack, read};
-use readings::scripts::{
+use expected::scripts::{
     around, many, LEFT_OF_EQUAL, MESSAGES, MORE_WAYS, NEWLINES, SMALL, STARS, WAYS, WORKED,
 };
+use oracle::{on_large_stack, read};
 
 use super::{End, File, Script};
 

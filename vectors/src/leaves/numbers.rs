@@ -6,9 +6,9 @@
 
 use crate::leaves::FAR;
 use crate::sheet::{hex, Sheet};
+use expected::dice::Dice;
 use oracle::token::Literal;
 use oracle::Stop;
-use readings::dice::Dice;
 
 /// The largest m and k whose value is given.
 const MOST_DIGITS: u64 = 1 << 53;

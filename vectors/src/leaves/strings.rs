@@ -8,9 +8,9 @@
 use crate::leaves::text::is_text;
 use crate::leaves::FAR;
 use crate::sheet::{hex, Sheet};
+use expected::dice::Dice;
 use oracle::token::{Literal, Token, TokenData};
 use oracle::{message_number, Reading, Stop};
-use readings::dice::Dice;
 
 /// The longest source that is read.
 pub(crate) const MOST_BYTES: usize = 65_535;

@@ -1,10 +1,10 @@
 //! Node records unfold to the original's trees, and a wrong record is noticed.
 
-use oracle::on_large_stack;
-use readings::scripts::{
+use expected::scripts::{
     around, many, LEFT_OF_EQUAL, MESSAGES, MORE_WAYS, NEWLINES, STARS, UNSTARRED, WAYS, WORKED,
 };
-use readings::whole::Whole;
+use expected::whole::Whole;
+use oracle::on_large_stack;
 
 fn listed() -> impl Iterator<Item = &'static str> {
     let lists = [STARS, UNSTARRED, WORKED, MESSAGES, NEWLINES, LEFT_OF_EQUAL];

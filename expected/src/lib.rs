@@ -5,8 +5,8 @@
 //! any size.
 
 pub mod dice;
-pub mod grammar;
 pub mod lexing;
+pub mod maker;
 pub mod marks;
 pub mod nodes;
 pub mod scripts;
