@@ -6,6 +6,7 @@ use std::{fs, io};
 
 use expected::dice::Dice;
 use expected::maker::Maker;
+use expected::records::WIDTHS;
 use expected::scripts::{
     around, LEFT_OF_EQUAL, MESSAGES, NEWLINES, SMALL, STARS, UNSTARRED, WAYS, WORKED,
 };
@@ -20,9 +21,6 @@ const TABLE: usize = 4_096;
 
 /// Each word of a table before a reading.
 const FILL: u32 = 7;
-
-/// Words of a record, in the order of the tables.
-const WIDTHS: [usize; 3] = [7, 3, 9];
 
 /// So many random scripts, with this seed.
 const RANDOM: usize = 60;

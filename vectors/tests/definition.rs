@@ -1,6 +1,7 @@
 //! The stored theorems about the definition are those that the generator makes from the
 //! original's answers, and each message of the original stands in one of them.
 
+use expected::records::{error, kind, message, node};
 use std::collections::BTreeSet;
 use std::fs;
 use vectors::definition::files;
@@ -23,9 +24,9 @@ fn every_message_and_every_kind_of_node_occurs() {
     let (mut messages, mut kinds) = (BTreeSet::new(), BTreeSet::new());
     for case in files().iter().flat_map(|file| file.cases()) {
         let errors = case.words[0][2] as usize;
-        messages.extend(case.words[1..1 + errors].iter().map(|error| error[0]));
-        kinds.extend(case.words[1 + errors..].iter().map(|node| node[0]));
+        messages.extend(case.words[1..1 + errors].iter().map(|e| e[error::MESSAGE]));
+        kinds.extend(case.words[1 + errors..].iter().map(|n| n[node::KIND]));
     }
-    assert!(messages.into_iter().eq(1..=29));
-    assert!(kinds.into_iter().eq(1..=32));
+    assert!(messages.into_iter().eq(message::ALL));
+    assert!(kinds.into_iter().eq(kind::ALL));
 }
