@@ -1,29 +1,26 @@
-//! Vectors for the Rattle program `rereads`: scripts with tables of given sizes, and what the whole
-//! reading makes of them, every word of each table included.
+//! Vectors for the Rattle program that replays whole readings: scripts with tables of given sizes,
+//! and what the whole reading makes of them, every word of each table included.
 
 use std::fmt::Write as _;
 use std::{fs, io};
 
-use oracle::on_large_stack;
-use readings::dice::Dice;
-use readings::grammar::Maker;
-use readings::scripts::{
+use expected::dice::Dice;
+use expected::maker::Maker;
+use expected::records::WIDTHS;
+use expected::scripts::{
     around, LEFT_OF_EQUAL, MESSAGES, NEWLINES, SMALL, STARS, UNSTARRED, WAYS, WORKED,
 };
-use readings::whole::{known, Answer, Known};
+use expected::whole::{known, Answer, Known};
+use oracle::on_large_stack;
 
-use crate::sheet::path;
+use crate::folders::{path, REPLAY_WHOLE};
 
-/// The program, the size of its input buffer, and that of its tables in words.
-pub const PROGRAM: &str = "rereads";
+/// The size of the program's input buffer, and that of its tables in words.
 const INPUT: usize = 262_144;
 const TABLE: usize = 4_096;
 
 /// Each word of a table before a reading.
 const FILL: u32 = 7;
-
-/// Words of a record, in the order of the tables.
-const WIDTHS: [usize; 3] = [7, 3, 9];
 
 /// So many random scripts, with this seed.
 const RANDOM: usize = 60;
@@ -163,7 +160,7 @@ impl Vectors {
     /// Writes both files of the program.
     pub fn write_files(&self) -> io::Result<()> {
         assert!(self.stdin.len() <= INPUT, "too long an input");
-        fs::write(path(PROGRAM, "stdin"), &self.stdin)?;
-        fs::write(path(PROGRAM, "stdout"), &self.stdout)
+        fs::write(path(REPLAY_WHOLE, "stdin"), &self.stdin)?;
+        fs::write(path(REPLAY_WHOLE, "stdout"), &self.stdout)
     }
 }

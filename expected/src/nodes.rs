@@ -9,9 +9,9 @@ use oracle::stmt::{ClassStmt, FnStmt, Stmt};
 use oracle::token::{Literal, Token, TokenData};
 
 use crate::marks;
+use crate::records::{kind, node, NODE_WORDS};
 
-/// A node: kind, three tokens, four children, next.
-pub type Node = [u32; 9];
+pub use crate::records::Node;
 
 /// The nodes made so far. References count from 1; 0 is nothing.
 pub struct Nodes<'a> {
@@ -27,18 +27,18 @@ impl<'a> Nodes<'a> {
     }
 
     fn push(&mut self, kind: u32, tokens: &[u32], children: &[u32]) -> u32 {
-        let mut node = [0; 9];
-        node[0] = kind;
-        node[1..1 + tokens.len()].copy_from_slice(tokens);
-        node[4..4 + children.len()].copy_from_slice(children);
-        self.nodes.push(node);
+        let mut record = [0; NODE_WORDS];
+        record[node::KIND] = kind;
+        record[node::TOKENS[0]..][..tokens.len()].copy_from_slice(tokens);
+        record[node::CHILDREN[0]..][..children.len()].copy_from_slice(children);
+        self.nodes.push(record);
         self.nodes.len() as u32
     }
 
     /// The later node comes behind the earlier one in a list.
     fn link(&mut self, earlier: u32, later: u32) {
         if earlier != 0 {
-            self.nodes[earlier as usize - 1][8] = later;
+            self.nodes[earlier as usize - 1][node::NEXT] = later;
         }
     }
 
@@ -66,7 +66,9 @@ impl<'a> Nodes<'a> {
     }
 
     fn names(&mut self, names: &[TokenData]) -> u32 {
-        self.list(names, |s, t| s.push(32, &[marks::reference(t)], &[]))
+        self.list(names, |s, t| {
+            s.push(kind::NAME, &[marks::reference(t)], &[])
+        })
     }
 
     fn body(&mut self, stmts: &[Stmt]) -> u32 {
@@ -76,11 +78,11 @@ impl<'a> Nodes<'a> {
     fn function(&mut self, f: &FnStmt) -> u32 {
         let params = self.names(&f.params);
         let body = self.body(&f.body);
-        self.push(18, &[marks::reference(&f.name)], &[params, body])
+        self.push(kind::FN_STMT, &[marks::reference(&f.name)], &[params, body])
     }
 
     fn var(&mut self, v: &VarExpr) -> u32 {
-        self.push(2, &[marks::maybe(&v.name)], &[])
+        self.push(kind::VAR, &[marks::maybe(&v.name)], &[])
     }
 
     /// Methods and static methods are two lists, numbered in the order of the script.
@@ -97,7 +99,7 @@ impl<'a> Nodes<'a> {
             last[list] = n;
         }
         let name = marks::maybe(&c.name);
-        self.push(21, &[name], &[first[0], first[1], superclass])
+        self.push(kind::CLASS, &[name], &[first[0], first[1], superclass])
     }
 
     fn stmt(&mut self, s: &Stmt) -> u32 {
@@ -105,11 +107,11 @@ impl<'a> Nodes<'a> {
             Stmt::Fn(f) => self.function(f),
             Stmt::Let(l) => {
                 let value = l.initializer.as_ref().map_or(0, |e| self.expr(e));
-                self.push(19, &[marks::reference(&l.name)], &[value])
+                self.push(kind::LET, &[marks::reference(&l.name)], &[value])
             }
             Stmt::Block(b) => {
                 let stmts = self.body(&b.stmts);
-                self.push(20, &[], &[stmts])
+                self.push(kind::BLOCK, &[], &[stmts])
             }
             Stmt::Class(c) => self.class(c),
             Stmt::ClassicFor(f) => {
@@ -118,19 +120,31 @@ impl<'a> Nodes<'a> {
                 let increment = self.expr(&f.increment);
                 let body = self.stmt(&f.body);
                 let children = [initializer, condition, increment, body];
-                self.push(22, &[marks::reference(&f.keyword)], &children)
+                self.push(
+                    kind::CLASSIC_FOR,
+                    &[marks::reference(&f.keyword)],
+                    &children,
+                )
             }
             Stmt::EnhancedFor(f) => {
                 let names = self.names(&f.identifiers);
                 let collection = self.expr(&f.collection);
                 let body = self.stmt(&f.body);
                 let children = [names, collection, body];
-                self.push(23, &[marks::reference(&f.keyword)], &children)
+                self.push(
+                    kind::ENHANCED_FOR,
+                    &[marks::reference(&f.keyword)],
+                    &children,
+                )
             }
             Stmt::While(w) => {
                 let condition = self.expr(&w.condition);
                 let body = self.stmt(&w.body);
-                self.push(24, &[marks::reference(&w.keyword)], &[condition, body])
+                self.push(
+                    kind::WHILE,
+                    &[marks::reference(&w.keyword)],
+                    &[condition, body],
+                )
             }
             Stmt::If(i) => {
                 let condition = self.expr(&i.condition);
@@ -138,26 +152,30 @@ impl<'a> Nodes<'a> {
                 let elifs = self.list(&i.elifs, |s, elif| {
                     let condition = s.expr(&elif.condition);
                     let then = s.body(&elif.then_branch);
-                    s.push(31, &[], &[condition, then])
+                    s.push(kind::ELIF, &[], &[condition, then])
                 });
                 let otherwise = self.body(&i.else_branch);
                 let children = [condition, then, elifs, otherwise];
-                self.push(25, &[marks::reference(&i.keyword)], &children)
+                self.push(kind::IF, &[marks::reference(&i.keyword)], &children)
             }
-            Stmt::Continue(c) => self.push(26, &[marks::reference(&c.keyword)], &[]),
+            Stmt::Continue(c) => self.push(kind::CONTINUE, &[marks::reference(&c.keyword)], &[]),
             Stmt::Return(r) => {
                 let value = r.value.as_ref().map_or(0, |e| self.expr(e));
-                self.push(27, &[marks::reference(&r.keyword)], &[value])
+                self.push(kind::RETURN, &[marks::reference(&r.keyword)], &[value])
             }
-            Stmt::Break(b) => self.push(28, &[marks::reference(&b.keyword)], &[]),
+            Stmt::Break(b) => self.push(kind::BREAK, &[marks::reference(&b.keyword)], &[]),
             Stmt::TryCatch(t) => {
                 let try_body = self.stmt(&t.try_body);
                 let catch_body = self.stmt(&t.catch_body);
-                self.push(29, &[marks::reference(&t.name)], &[try_body, catch_body])
+                self.push(
+                    kind::TRY_CATCH,
+                    &[marks::reference(&t.name)],
+                    &[try_body, catch_body],
+                )
             }
             Stmt::Expr(e) => {
                 let expression = self.expr(&e.expression);
-                self.push(30, &[marks::maybe(&e.last)], &[expression])
+                self.push(kind::EXPR_STMT, &[marks::maybe(&e.last)], &[expression])
             }
         }
     }
@@ -171,41 +189,53 @@ impl<'a> Nodes<'a> {
             Expr::Fn(FnExpr { params, body }) => {
                 let params = self.names(params);
                 let body = self.body(body);
-                self.push(1, &[], &[params, body])
+                self.push(kind::FN_EXPR, &[], &[params, body])
             }
             Expr::Var(v) => self.var(v),
             Expr::List(l) => {
                 let elements = self.exprs(&l.elements);
-                self.push(3, &[marks::reference(&l.brace)], &[elements])
+                self.push(kind::LIST, &[marks::reference(&l.brace)], &[elements])
             }
             Expr::Dictionary(d) => {
                 let elements = self.exprs(&d.elements);
-                self.push(4, &[marks::reference(&d.curly_brace)], &[elements])
+                self.push(
+                    kind::DICTIONARY,
+                    &[marks::reference(&d.curly_brace)],
+                    &[elements],
+                )
             }
             Expr::Assign(a) => {
                 let name = marks::reference(&a.name);
                 // The left side was read first: an Access around the name, or the name alone.
                 let access = a.access.as_ref().map_or(0, |access| self.access(access));
                 if access == 0 {
-                    self.push(2, &[name], &[]);
+                    self.push(kind::VAR, &[name], &[]);
                 }
                 let value = self.expr(&a.value);
-                self.push(5, &[name], &[value, access])
+                self.push(kind::ASSIGN, &[name], &[value, access])
             }
             Expr::Access(a) => self.access(a),
             Expr::Binary(b) => {
                 let left = self.expr(&b.left);
                 let right = self.expr(&b.right);
-                self.push(7, &[marks::reference(&b.operator)], &[left, right])
+                self.push(
+                    kind::BINARY,
+                    &[marks::reference(&b.operator)],
+                    &[left, right],
+                )
             }
             Expr::Call(c) => {
                 let callee = self.expr(&c.callee);
                 let arguments = self.exprs(&c.arguments);
-                self.push(8, &[marks::reference(&c.paren)], &[callee, arguments])
+                self.push(
+                    kind::CALL,
+                    &[marks::reference(&c.paren)],
+                    &[callee, arguments],
+                )
             }
             Expr::Get(g) => {
                 let object = self.expr(&g.object);
-                self.push(9, &[marks::reference(&g.name)], &[object])
+                self.push(kind::GET, &[marks::reference(&g.name)], &[object])
             }
             Expr::Set(s) => {
                 let name = marks::reference(&s.name);
@@ -217,12 +247,12 @@ impl<'a> Nodes<'a> {
                     }
                     None => {
                         let object = self.expr(&s.object);
-                        self.push(9, &[name], &[object]);
+                        self.push(kind::GET, &[name], &[object]);
                         (0, object)
                     }
                 };
                 let value = self.expr(&s.value);
-                self.push(10, &[name], &[object, value, access])
+                self.push(kind::SET, &[name], &[object, value, access])
             }
             Expr::Super(s) => {
                 // The made-up method is no token of the script.
@@ -231,38 +261,44 @@ impl<'a> Nodes<'a> {
                 } else {
                     0
                 };
-                self.push(11, &[marks::reference(&s.keyword), method], &[])
+                self.push(kind::SUPER, &[marks::reference(&s.keyword), method], &[])
             }
             Expr::Grouping(g) => {
                 let expression = self.expr(&g.expression);
-                self.push(12, &[], &[expression])
+                self.push(kind::GROUPING, &[], &[expression])
             }
             Expr::Literal(l) => match &l.value {
-                Literal::String(mark) => self.push(13, &[marks::read(mark)], &[]),
+                Literal::String(mark) => self.push(kind::LITERAL, &[marks::read(mark)], &[]),
                 other => panic!("a literal without a mark: {other:?}"),
             },
             Expr::Logical(l) => {
                 let left = self.expr(&l.left);
                 let right = self.expr(&l.right);
-                self.push(14, &[marks::reference(&l.operator)], &[left, right])
+                self.push(
+                    kind::LOGICAL,
+                    &[marks::reference(&l.operator)],
+                    &[left, right],
+                )
             }
-            Expr::This(t) => self.push(15, &[marks::reference(&t.keyword)], &[]),
+            Expr::This(t) => self.push(kind::THIS, &[marks::reference(&t.keyword)], &[]),
             Expr::Unary(u) => {
                 let right = self.expr(&u.right);
-                self.push(16, &[marks::reference(&u.operator)], &[right])
+                self.push(kind::UNARY, &[marks::reference(&u.operator)], &[right])
             }
-            Expr::Empty => self.push(17, &[], &[]),
+            Expr::Empty => self.push(kind::EMPTY, &[], &[]),
         }
     }
 
     /// The object that the Get below directly nested Accesses has.
     fn object_of_get(&self, access: u32) -> u32 {
-        let mut node = self.nodes[access as usize - 1];
-        while node[0] == 6 {
-            node = self.nodes[node[4] as usize - 1];
+        let object = |record: Node| record[node::CHILDREN[0]];
+        let mut record = self.nodes[access as usize - 1];
+        while record[node::KIND] == kind::ACCESS {
+            record = self.nodes[object(record) as usize - 1];
         }
-        assert_eq!(node[0], 9, "a Set's access leads to a Get");
-        node[4]
+        let found = record[node::KIND];
+        assert_eq!(found, kind::GET, "a Set's access leads to a Get");
+        object(record)
     }
 
     /// An index or slice. The original has Empty both for an expression that was not looked for
@@ -287,7 +323,7 @@ impl<'a> Nodes<'a> {
         let second = part(has_second, &a.second);
         let third = part(has_third, &a.third);
         let tokens = [marks::reference(&a.brace), colon1, colon2];
-        self.push(6, &tokens, &[object, first, second, third])
+        self.push(kind::ACCESS, &tokens, &[object, first, second, third])
     }
 
     /// Whether `]` comes behind the token with this reference, newlines aside.

@@ -12,6 +12,7 @@ use oracle::{Reading, Stop};
 use crate::lexing::{self, is_text, Error, Lexing, Token, LONGEST};
 use crate::marks;
 use crate::nodes::{Node, Nodes};
+use crate::records::{node, outcome};
 use crate::unfold;
 
 /// A script that the original can be given, and all that it makes of it.
@@ -67,9 +68,9 @@ pub enum Known {
 /// Reads a source of any bytes: 4 is tested first, then 3.
 pub fn known(source: &[u8]) -> Known {
     if source.len() > LONGEST {
-        Known::Refused(4)
+        Known::Refused(outcome::TOO_LONG)
     } else if !is_text(source) {
-        Known::Refused(3)
+        Known::Refused(outcome::NO_TEXT)
     } else if let Ok(script) = std::str::from_utf8(source) {
         Known::Read(Box::new(Whole::of(script)))
     } else {
@@ -101,7 +102,9 @@ impl Whole {
             ..Answer::default()
         };
         match &self.parsing {
-            Some(parsing) if kept.outcome == 0 => parsing.within(kept, error_room, node_room),
+            Some(parsing) if kept.outcome == outcome::DONE => {
+                parsing.within(kept, error_room, node_room)
+            }
             _ => kept,
         }
     }
@@ -188,7 +191,7 @@ impl Parsing {
             }
         }
         made.truncate(self.nodes.len());
-        let kinds: Vec<u32> = self.nodes.iter().map(|node| node[0]).collect();
+        let kinds: Vec<u32> = self.nodes.iter().map(|record| record[node::KIND]).collect();
         assert_eq!(ends, self.numbers, "numbers of statements in {script:?}");
         assert_eq!(made, kinds, "kinds of nodes in {script:?}");
     }
@@ -228,12 +231,15 @@ impl Parsing {
         let (mut errors, mut nodes) = (lexed.errors.len(), 0);
         let (mut statements, mut kept) = (0, 0);
         let mut so_far = vec![[errors as u32, 0]];
-        let mut outcome = u32::from(self.stopped);
+        let mut ended = match self.stopped {
+            true => outcome::STOPPED,
+            false => outcome::DONE,
+        };
         for event in &self.events {
             match event {
-                Event::Error if errors == error_room => outcome = 6,
-                Event::Node(_) if nodes == node_room => outcome = 7,
-                Event::Level => outcome = 8,
+                Event::Error if errors == error_room => ended = outcome::ERROR_ROOM,
+                Event::Node(_) if nodes == node_room => ended = outcome::NODE_ROOM,
+                Event::Level => ended = outcome::TOO_DEEP,
                 Event::Error => errors += 1,
                 Event::Node(_) => nodes += 1,
                 Event::Statement => {
@@ -241,21 +247,21 @@ impl Parsing {
                     so_far.push([errors as u32, nodes as u32]);
                 }
             }
-            if outcome > 1 {
+            if ended > outcome::STOPPED {
                 break;
             }
         }
-        if outcome == 0 {
+        if ended == outcome::DONE {
             // Behind the last one comes EOF.
             so_far.pop();
         }
         let mut nodes = self.nodes[..kept].to_vec();
         if let Some(last) = nodes.last_mut() {
             // What came behind it isn't kept.
-            last[8] = 0;
+            last[node::NEXT] = 0;
         }
         Answer {
-            outcome,
+            outcome: ended,
             tokens: lexed.tokens,
             errors: self.errors[..errors].to_vec(),
             nodes,

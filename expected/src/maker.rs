@@ -1,4 +1,4 @@
-//! Random scripts: soups of tokens, and statements of the grammar, whole or with slips.
+//! A maker of random scripts: soups of tokens, and statements of the grammar, whole or with slips.
 
 use crate::dice::Dice;
 

@@ -1,13 +1,13 @@
 //! Scripts for whole readings.
 
+use expected::dice::Dice as Rolls;
+use expected::maker::Maker;
+use expected::spellings::{BETWEEN, NUMBERS, STRINGS};
 use oracle::{read, Stop};
-use readings::dice::Dice as Rolls;
-use readings::grammar::Maker;
-use readings::spellings::{BETWEEN, NUMBERS, STRINGS};
 
 use crate::dice::Dice;
+use crate::lex_scripts::damaged;
 use crate::lists::all_of_length;
-use crate::scripts::damaged;
 
 /// One token of each kind but EOF, each with a blank so that no two run together.
 pub const TOKENS: [&str; 49] = [

@@ -5,13 +5,18 @@
 //! any size.
 
 pub mod dice;
-pub mod grammar;
 pub mod lexing;
+pub mod maker;
 pub mod marks;
 pub mod nodes;
 pub mod scripts;
 pub mod spellings;
 pub mod whole;
+
+/// Document 01's numbers by name: the Rust crate's own file, so that there is one definition, though
+/// this crate links no library.
+#[path = "../../kettleplume/src/records.rs"]
+pub mod records;
 
 /// The way back from `nodes`: the file is the Rust crate's own, over the oracle's types. So what it
 /// makes of records is held against the original's trees, and not against a flattening of them.

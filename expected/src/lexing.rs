@@ -5,17 +5,11 @@
 //! in full before the library is asked.
 
 use oracle::state::InterpreterError;
-use oracle::token::Literal;
+use oracle::token::{Literal, TokenData};
 use oracle::{message_number, Reading, Stop};
 
-/// The longest source that is read.
-pub const LONGEST: usize = 65_535;
-
-/// A token: kind, start, length, line, value sort, two value words.
-pub type Token = [u32; 7];
-
-/// An error: message, line, pos.
-pub type Error = [u32; 3];
+use crate::records::{self, message, outcome, sort};
+pub use crate::records::{Error, Token, LONGEST};
 
 /// What lexing comes to.
 #[derive(Debug, Clone, PartialEq, Eq)]
@@ -52,9 +46,9 @@ pub enum Expected {
 pub fn expect(source: &[u8]) -> Expected {
     let refused = |outcome| Expected::Exact(Lexing::refused(outcome), vec![]);
     if source.len() > LONGEST {
-        refused(4)
+        refused(outcome::TOO_LONG)
     } else if !is_text(source) {
-        refused(3)
+        refused(outcome::NO_TEXT)
     } else if let Ok(script) = std::str::from_utf8(source) {
         let (lexing, texts) = Lexing::of(script);
         Expected::Exact(lexing, texts)
@@ -103,18 +97,15 @@ impl Lexing {
         let (mut tokens, mut texts) = (vec![], vec![]);
         for token in &reading.tokens {
             let start = walk.find(&token.lexeme);
-            let [sort, low, high] = value_words(&token.literal, &token.lexeme);
-            let (kind, length) = (token.token as u32, token.lexeme.len() as u32);
-            let line = token.line as u32;
-            tokens.push([kind, start as u32, length, line, sort, low, high]);
+            tokens.push(record(token, start));
             if let Some(Literal::String(text)) = &token.literal {
                 let bytes = text.clone().into_bytes();
                 texts.push(Text { start, bytes });
             }
         }
         let outcome = match reading.stop {
-            Stop::Lexing => 2,
-            _ => 0,
+            Stop::Lexing => outcome::POINT_AT_END,
+            _ => outcome::DONE,
         };
         let lexing = Lexing {
             outcome,
@@ -132,14 +123,16 @@ impl Lexing {
         let outcome = loop {
             let token_next = match (self.tokens.get(tokens), self.errors.get(errors)) {
                 (None, None) => break self.outcome,
-                (Some(token), Some(error)) => token[1] < error[2],
+                (Some(token), Some(error)) => {
+                    token[records::token::START] < error[records::error::POS]
+                }
                 (Some(_), None) => true,
                 (None, Some(_)) => false,
             };
             match token_next {
-                true if tokens == token_room => break 5,
+                true if tokens == token_room => break outcome::TOKEN_ROOM,
                 true => tokens += 1,
-                false if errors == error_room => break 6,
+                false if errors == error_room => break outcome::ERROR_ROOM,
                 false => errors += 1,
             }
         };
@@ -151,6 +144,14 @@ impl Lexing {
     }
 }
 
+/// A token of the original as a record, with where it starts: the one place that makes one.
+fn record(token: &TokenData, start: usize) -> Token {
+    let [sort, low, high] = value_words(&token.literal, &token.lexeme);
+    let (kind, length) = (token.token as u32, token.lexeme.len() as u32);
+    let (start, line) = (start as u32, token.line as u32);
+    [kind, start, length, line, sort, low, high]
+}
+
 /// An error of the original as a record.
 pub fn error(e: &InterpreterError) -> Error {
     let message = message_number(&e.message).expect("a message of the original");
@@ -160,12 +161,12 @@ pub fn error(e: &InterpreterError) -> Error {
 /// The value sort and the two value words.
 fn value_words(literal: &Option<Literal>, lexeme: &str) -> [u32; 3] {
     match literal {
-        None => [0, 0, 0],
-        Some(Literal::String(text)) => [1, text.len() as u32, 0],
-        Some(Literal::Number(_)) if is_long(lexeme) => [3, 0, 0],
+        None => [sort::NONE, 0, 0],
+        Some(Literal::String(text)) => [sort::TEXT, text.len() as u32, 0],
+        Some(Literal::Number(_)) if is_long(lexeme) => [sort::LONG, 0, 0],
         Some(Literal::Number(number)) => {
             let bits = number.to_bits();
-            [2, bits as u32, (bits >> 32) as u32]
+            [sort::NUMBER, bits as u32, (bits >> 32) as u32]
         }
         Some(other) => panic!("the original's lexer gives no such literal: {other:?}"),
     }
@@ -223,9 +224,12 @@ impl<'a> Walk<'a> {
     fn pass(&mut self) {
         while let Some(&byte) = self.source.get(self.at) {
             match (self.errors, byte) {
-                ([[message, _, pos], rest @ ..], _) if *pos as usize == self.at => {
+                ([[number, _, pos], rest @ ..], _) if *pos as usize == self.at => {
                     self.errors = rest;
-                    self.at += if *message == 3 { self.broken() } else { 1 };
+                    self.at += match *number {
+                        message::UNCLOSED => self.broken(),
+                        _ => 1,
+                    };
                 }
                 (_, b' ' | b'\t' | b'\r') => self.at += 1,
                 (_, b'#') => {
@@ -271,24 +275,24 @@ pub fn expect_decoding(source: &[u8], start: u64, room: usize) -> Option<Decodin
         })
     };
     if source.len() > LONGEST {
-        return refused(4);
+        return refused(outcome::TOO_LONG);
     }
     if !is_text(source) {
-        return refused(3);
+        return refused(outcome::NO_TEXT);
     }
     let script = std::str::from_utf8(source).ok()?;
     let from_start = usize::try_from(start).ok().and_then(|at| script.get(at..));
     let Some(from_start) = from_start.filter(|rest| rest.starts_with('"')) else {
-        return refused(9);
+        return refused(outcome::NO_STRING);
     };
     let reading = oracle::lex(from_start);
     if reading.errors.first().is_some_and(|error| error.pos == 0) {
-        return refused(9);
+        return refused(outcome::NO_STRING);
     }
     match reading.tokens.into_iter().next().and_then(|t| t.literal) {
-        Some(Literal::String(text)) if text.len() > room => refused(10),
+        Some(Literal::String(text)) if text.len() > room => refused(outcome::BUFFER_ROOM),
         Some(Literal::String(text)) => Some(Decoding {
-            outcome: 0,
+            outcome: outcome::DONE,
             bytes: text.into_bytes(),
         }),
         other => panic!("the original reads {other:?} in {from_start:?}"),

@@ -1,10 +1,11 @@
 //! Node records unfold to the original's trees, and a wrong record is noticed.
 
-use oracle::on_large_stack;
-use readings::scripts::{
+use expected::records::{node, Node, NODE_WORDS};
+use expected::scripts::{
     around, many, LEFT_OF_EQUAL, MESSAGES, MORE_WAYS, NEWLINES, STARS, UNSTARRED, WAYS, WORKED,
 };
-use readings::whole::Whole;
+use expected::whole::Whole;
+use oracle::on_large_stack;
 
 fn listed() -> impl Iterator<Item = &'static str> {
     let lists = [STARS, UNSTARRED, WORKED, MESSAGES, NEWLINES, LEFT_OF_EQUAL];
@@ -39,7 +40,7 @@ fn another_word_is_another_tree() {
         let answer = whole.within(whole.needs());
         let (nodes, first) = (&answer.nodes, answer.first);
         let used = reached(nodes, first);
-        for (index, column) in (0..nodes.len()).flat_map(|i| (0..9).map(move |c| (i, c))) {
+        for (index, column) in (0..nodes.len()).flat_map(|i| (0..NODE_WORDS).map(move |c| (i, c))) {
             let mut wrong = nodes.clone();
             wrong[index][column] += 1;
             // A column that a kind doesn't have is no part of the tree.
@@ -52,12 +53,12 @@ fn another_word_is_another_tree() {
 }
 
 /// The nodes that the statements refer to.
-fn reached(nodes: &[[u32; 9]], first: u32) -> Vec<u32> {
+fn reached(nodes: &[Node], first: u32) -> Vec<u32> {
     let (mut found, mut ahead) = (vec![], vec![first]);
     while let Some(n) = ahead.pop() {
         if n != 0 && !found.contains(&n) {
             found.push(n);
-            ahead.extend(&nodes[n as usize - 1][4..]);
+            ahead.extend(&nodes[n as usize - 1][node::CHILDREN[0]..]);
         }
     }
     found

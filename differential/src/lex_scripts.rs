@@ -1,4 +1,4 @@
-//! Scripts from random pieces, and damaged ones.
+//! Scripts for lexings: from random pieces, and damaged ones.
 
 use crate::dice::Dice;
 
