@@ -5,7 +5,7 @@ use std::path::{Path, PathBuf};
 /// The program that runs stored vectors of the leaves and of lexing.
 pub const REPLAY: &str = "replay";
 /// The program that runs stored whole readings.
-pub const REPLAY_WHOLE: &str = "rereads";
+pub const REPLAY_WHOLE: &str = "replay_whole";
 /// The program that prints the outlines of stored scripts, one for each outcome among them.
 pub const OUTCOMES: &str = "outcomes";
 /// The program that prints the outline of its input.
