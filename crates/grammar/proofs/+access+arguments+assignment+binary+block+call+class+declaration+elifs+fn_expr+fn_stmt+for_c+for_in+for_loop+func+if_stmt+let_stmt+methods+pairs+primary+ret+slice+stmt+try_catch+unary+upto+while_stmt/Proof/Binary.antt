@@ -1,4 +1,4 @@
--- `binary`, of the cycle.
+-- Made by tools/remake cycle grammar from tools/ans/grammar/binary.txt: `binary`, of the cycle.
 use mathlib.Core.Path.{_≡_, refl, sym, ap, _∙_}
 use mathlib.Core.List.{List, []}
 use Prim.Native.Nat.{ℕ, suc, _+_, _-_, _≤_, _<_}

@@ -1,4 +1,4 @@
--- `declaration`, of the cycle.
+-- Made by tools/remake cycle grammar from tools/ans/grammar/declaration.txt: `declaration`, of the cycle.
 use mathlib.Core.Path.{_∙_}
 use Prim.Native.Nat.{ℕ, _-_}
 use Rattle.parser.specs.Programs.{run, Declaration}
