@@ -371,26 +371,8 @@ fn for_in(
         return g;
     };
     let q = g.p;
-    let g = declaration(tokens, errors, nodes, q, levels);
-    let k = g.got;
-    let Got::Node(stmt) = k else {
-        return g;
-    };
-    let q = g.p;
-    parser::make(
-        nodes,
-        q,
-        pieces::row(
-            Node::ENHANCED_FOR,
-            keyword,
-            0,
-            0,
-            ids.node,
-            collection.node,
-            stmt.node,
-            0,
-        ),
-    )
+    let stmt = declaration(tokens, errors, nodes, q, levels);
+    pieces::for_node(nodes, stmt, keyword, ids.node, collection.node)
 }
 
 fn try_catch(tokens: &[u32], errors: &mut [u32], nodes: &mut [u32], p: State, levels: u32) -> Out

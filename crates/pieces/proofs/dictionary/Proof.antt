@@ -1,9 +1,9 @@
--- `readers::dictionary` meets its contract. Assumes nothing.
+-- Made by tools/remake function pieces dictionary from tools/ans/pieces/dictionary.txt: `pieces::dictionary` meets its contract. Assumes nothing.
 use Rattle.parser.specs.Programs.{run}
 use borrow.Author.Needs.{needs}
 use Rattle.pieces.proofs.dictionary.Statement.{statement}
 use Rattle.pieces.proofs.dictionary.Tie as tie
-use Rattle.pieces.proofs.dictionary.Reads as runAt
+use Rattle.pieces.proofs.dictionary.Reads as reads
 use Rattle.pieces.proofs.dictionary.Lts as lts
 use Rattle.parser.proofs.make.Reads as make-reads
 use Rattle.parser.proofs.require.Reads as require-reads

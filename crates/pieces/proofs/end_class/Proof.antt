@@ -1,8 +1,13 @@
--- `readers::end_class` meets its contract. Assumes nothing.
+-- Made by tools/remake function pieces end_class from tools/ans/pieces/end_class.txt: `pieces::end_class` meets its contract. Assumes nothing.
 use Rattle.parser.specs.Programs.{run}
 use borrow.Author.Needs.{needs}
 use Rattle.pieces.proofs.end_class.Statement.{statement}
 use Rattle.pieces.proofs.end_class.Tie as tie
+use Rattle.pieces.proofs.end_class.Reads as reads
+use Rattle.pieces.proofs.end_class.Lts as lts
+use Rattle.parser.proofs.consume.Reads as consume-reads
+use Rattle.parser.proofs.make.Reads as make-reads
+use Rattle.pieces.proofs.row.Reads as row-reads
 
 consume-requires : tie.Need-consume-requires
 consume-requires c κs = search needs

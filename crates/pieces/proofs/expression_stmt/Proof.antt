@@ -1,8 +1,8 @@
--- `readers::expression_stmt` meets its contract. Assumes nothing.
+-- Made by tools/remake function pieces expression_stmt from tools/ans/pieces/expression_stmt.txt: `pieces::expression_stmt` meets its contract. Assumes nothing.
 use borrow.Author.Needs.{needs}
 use Rattle.pieces.proofs.expression_stmt.Statement.{statement}
 use Rattle.pieces.proofs.expression_stmt.Tie as tie
-use Rattle.pieces.proofs.expression_stmt.Reads as runAt
+use Rattle.pieces.proofs.expression_stmt.Reads as reads
 use Rattle.pieces.proofs.expression_stmt.Lts as lts
 use Rattle.parser.proofs.make.Reads as make-reads
 use Rattle.pieces.proofs.last_of.Reads as last-of-reads

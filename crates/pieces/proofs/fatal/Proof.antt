@@ -1,7 +1,11 @@
--- `readers::fatal` meets its contract. Assumes nothing.
+-- Made by tools/remake function pieces fatal from tools/ans/pieces/fatal.txt: `pieces::fatal` meets its contract. Assumes nothing.
 use borrow.Author.Needs.{needs}
 use Rattle.pieces.proofs.fatal.Statement.{statement}
 use Rattle.pieces.proofs.fatal.Tie as tie
+use Rattle.pieces.proofs.fatal.Reads as reads
+use Rattle.pieces.proofs.fatal.Lts as lts
+use Rattle.parser.proofs.set_error.Reads as set-error-reads
+use Rattle.parser.proofs.stopped.Reads as stopped-reads
 
 set-error-requires : tie.Need-set-error-requires
 set-error-requires c κs = search needs

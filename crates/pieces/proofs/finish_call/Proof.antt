@@ -1,9 +1,9 @@
--- `readers::finish_call` meets its contract. Assumes nothing.
+-- Made by tools/remake function pieces finish_call from tools/ans/pieces/finish_call.txt: `pieces::finish_call` meets its contract. Assumes nothing.
 use Rattle.parser.specs.Programs.{run}
 use borrow.Author.Needs.{needs}
 use Rattle.pieces.proofs.finish_call.Statement.{statement}
 use Rattle.pieces.proofs.finish_call.Tie as tie
-use Rattle.pieces.proofs.finish_call.Reads as runAt
+use Rattle.pieces.proofs.finish_call.Reads as reads
 use Rattle.pieces.proofs.finish_call.Lts as lts
 use Rattle.parser.proofs.make.Reads as make-reads
 use Rattle.parser.proofs.require.Reads as require-reads

@@ -1,8 +1,8 @@
--- `readers::fn_node` meets its contract. Assumes nothing.
+-- Made by tools/remake function pieces fn_node from tools/ans/pieces/fn_node.txt: `pieces::fn_node` meets its contract. Assumes nothing.
 use borrow.Author.Needs.{needs}
 use Rattle.pieces.proofs.fn_node.Statement.{statement}
 use Rattle.pieces.proofs.fn_node.Tie as tie
-use Rattle.pieces.proofs.fn_node.Reads as runAt
+use Rattle.pieces.proofs.fn_node.Reads as reads
 use Rattle.pieces.proofs.fn_node.Lts as lts
 use Rattle.parser.proofs.make.Reads as make-reads
 use Rattle.pieces.proofs.row.Reads as row-reads

@@ -1,8 +1,8 @@
--- `readers::if_node` meets its contract. Assumes nothing.
+-- Made by tools/remake function pieces if_node from tools/ans/pieces/if_node.txt: `pieces::if_node` meets its contract. Assumes nothing.
 use borrow.Author.Needs.{needs}
 use Rattle.pieces.proofs.if_node.Statement.{statement}
 use Rattle.pieces.proofs.if_node.Tie as tie
-use Rattle.pieces.proofs.if_node.Reads as runAt
+use Rattle.pieces.proofs.if_node.Reads as reads
 use Rattle.pieces.proofs.if_node.Lts as lts
 use Rattle.parser.proofs.make.Reads as make-reads
 use Rattle.pieces.proofs.row.Reads as row-reads

@@ -1,9 +1,9 @@
--- `readers::list` meets its contract. Assumes nothing.
+-- Made by tools/remake function pieces list from tools/ans/pieces/list.txt: `pieces::list` meets its contract. Assumes nothing.
 use Rattle.parser.specs.Programs.{run}
 use borrow.Author.Needs.{needs}
 use Rattle.pieces.proofs.list.Statement.{statement}
 use Rattle.pieces.proofs.list.Tie as tie
-use Rattle.pieces.proofs.list.Reads as runAt
+use Rattle.pieces.proofs.list.Reads as reads
 use Rattle.pieces.proofs.list.Lts as lts
 use Rattle.parser.proofs.make.Reads as make-reads
 use Rattle.parser.proofs.require.Reads as require-reads

@@ -1,4 +1,4 @@
--- `readers::names` meets its contract. Assumes nothing.
+-- Made by tools/remake function pieces names from tools/ans/pieces/names.txt: `pieces::names` meets its contract. Assumes nothing.
 use mathlib.Core.Path.{_≡_, refl, sym, ap, _∙_}
 use mathlib.Core.List.{List, []}
 use Prim.Native.Nat.{ℕ, suc, _-_, _≤_, _<_}
@@ -12,7 +12,7 @@ use Rattle.pieces.proofs.Turns.{found-past, make-on}
 use borrow.Author.Needs.{needs}
 use Rattle.pieces.proofs.names.Statement.{statement}
 use Rattle.pieces.proofs.names.Tie as tie
-use Rattle.pieces.proofs.names.Reads as runAt
+use Rattle.pieces.proofs.names.Reads as reads
 use Rattle.pieces.proofs.names.Lts as lts
 use Rattle.parser.proofs.State.at_token.Reads as at-token-reads
 use Rattle.parser.proofs.first_of.Reads as first-of-reads
@@ -67,7 +67,7 @@ gives-requires : tie.Need-gives-requires Inv-loop μ-loop
 gives-requires c κs = search needs
 
 same-length : tie.Need-same-length Inv-loop μ-loop
-same-length c = search needs
+same-length c = c .before .before .before .before .loop .inv .nodes
 
 returns : tie.Need-returns Inv-loop μ-loop
 unfolding run namesFrom
@@ -89,7 +89,7 @@ enum-told-2 : tie.Need-enum-told-2 Inv-loop μ-loop
 enum-told-2 c = search needs
 
 same-length-2 : tie.Need-same-length-2 Inv-loop μ-loop
-same-length-2 c = search needs
+same-length-2 c = c .before .before .before .before .make .kept .0 ∙ c .before .before .before .before .before .before .before .before .before .before .before .before .loop .inv .nodes
 
 returns-2 : tie.Need-returns-2 Inv-loop μ-loop
 unfolding run namesFrom

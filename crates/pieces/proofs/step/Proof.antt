@@ -1,9 +1,9 @@
--- `readers::step` meets its contract. Assumes nothing.
+-- Made by tools/remake function pieces step from tools/ans/pieces/step.txt: `pieces::step` meets its contract. Assumes nothing.
 use Rattle.parser.specs.Programs.{run}
 use borrow.Author.Needs.{needs}
 use Rattle.pieces.proofs.step.Statement.{statement}
 use Rattle.pieces.proofs.step.Tie as tie
-use Rattle.pieces.proofs.step.Reads as runAt
+use Rattle.pieces.proofs.step.Reads as reads
 use Rattle.pieces.proofs.step.Lts as lts
 use Rattle.pieces.proofs.close_access.Reads as close-access-reads
 
