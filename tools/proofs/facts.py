@@ -182,8 +182,10 @@ def located(setting, term, place, who):
 
 
 def written_out(setting, text, need, place_type):
-    """An answer or a lemma as it stands in a proof: rewritings, `%before`, `%place` and the places written out."""
+    """An answer or a lemma as it stands in a proof: instances, rewritings, `%before`, `%place` and the places written out."""
     place = setting.places.need.get(need, "")
+    for variable, term in setting.answers.instances.items():
+        text = re.sub(rf"%{variable}\b", lambda _: term, text)
     text = rewritten(text, facts(setting, place))
     text = text.replace("%before", ", ".join(facts(setting, place, before_loop=True)))
     text = text.replace("%place", place_type(place))

@@ -9,15 +9,19 @@ from .targets import folders
 
 
 def make(repository, wanted):
-    """Makes targets, crate by crate; returns what stands in the way of whole proofs."""
-    problems = []
-    for crate in repository.links:
-        for batch in batches(repository, crate, [t for t in wanted if t.crate == crate]):
-            look_at(repository, batch)
-            for target in (target for row in batch for target in row):
-                problems += put(repository, target)
-    prover.tidy(repository.root)
-    record.write(repository, set(wanted))
+    """Makes targets, crate by crate; returns what stands in the way of whole proofs. What was made is recorded in any case."""
+    problems, made = [], set()
+    try:
+        for crate in (crate for crate in repository.links if any(t.crate == crate for t in wanted)):
+            for batch in batches(repository, crate, [t for t in wanted if t.crate == crate]):
+                look_at(repository, batch)
+                for target in (target for row in batch for target in row):
+                    problems += put(repository, target)
+                    made.add(target)
+                prover.tidy(repository.root)
+    finally:
+        if made:
+            record.write(repository, made)
     return problems
 
 

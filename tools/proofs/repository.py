@@ -16,7 +16,7 @@ class Repository:
     def links(self):
         """For each crate the crates that it links, as `crates.txt` has them."""
         lines = (self.root / "crates.txt").read_text().splitlines()
-        pairs = (line.partition(":") for line in lines if line.strip())
+        pairs = (line.partition(":") for line in lines if line.strip() and not line.lstrip().startswith("#"))
         return {name.strip(): linked.split() for name, _, linked in pairs}
 
     def folder(self, crate):

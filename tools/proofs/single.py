@@ -10,6 +10,13 @@ DECLARED = re.compile(r"(?:abbrev )?(\S+) :")
 INVARIANT = re.compile(r"abbrev (?:Inv|μ)")
 
 
+def used_imports(imports, text):
+    """The imports without those under an alias that a text does not use."""
+    aliases = ((line, re.search(r" as (\S+)$", line)) for line in imports.split("\n"))
+    kept = [line for line, alias in aliases if not alias or re.search(rf"(?<![\w-]){re.escape(alias.group(1))}\.", text)]
+    return "\n".join(kept)
+
+
 class FunctionWriter:
     """Fills in the skeleton of a function's proof."""
 
@@ -43,8 +50,8 @@ class FunctionWriter:
         for need in sorted(set(said.needs) - self.used):
             self.setting.problem(f"answers no need: {need}")
         searched = "" if "Author.Needs" in top else "use borrow.Author.Needs.{needs}\n"
-        top = (said.use + "\n" if said.use else "") + searched + top
-        return "\n\n".join([top] + ([said.pre] if said.pre else []) + invariants + lemmas + needs) + "\n"
+        rest = "\n\n".join(([said.pre] if said.pre else []) + invariants + lemmas + needs) + "\n"
+        return (said.use + "\n" if said.use else "") + searched + used_imports(top, rest) + "\n\n" + rest
 
     def filled(self, block):
         """A block of the skeleton with its answer, if it asks for one."""

@@ -102,6 +102,10 @@ class Terms(unittest.TestCase):
         self.assertEqual(written_out(one, "l : (c : %place) → T\nl c = %rw()", "returns", lambda place: f"tie.{place}"),
                          "l : (c : tie.After-gives) → T\nl c = rw (c .gives .ensures)")
 
+    def test_an_instance_has_its_variables_name(self):
+        one, _ = setting(way=("gives",), said="== for\nlow: lower (@args .p)\n")
+        self.assertEqual(written_out(one, "run (%low) %lower", "returns", str), "run (lower (c .before .args .p)) %lower")
+
     def test_a_long_term_stands_below(self):
         self.assertEqual(equation("f c", "x"), "f c = x")
         self.assertEqual(equation("f c", "let x in\ny"), "f c =\n    let x in\n    y")

@@ -34,7 +34,7 @@ fn ping(p: State, n: u32) -> State { pong(p, n) }
 fn pong(p: State, n: u32) -> State { ping(p, n) }
 """
 FILES = {
-    "crates.txt": "leaves:\nreaders: leaves\n",
+    "crates.txt": "# parsing\nleaves:\nreaders: leaves\n",
     "crates/leaves/src/lib.rt": LEAVES,
     "crates/readers/src/lib.rt": CODE,
     "crates/readers/specs/Programs.antt": "module _ where\n  abbrev pub run : ℕ\n",
