@@ -266,6 +266,31 @@ pub fn if_node(
     )
 }
 
+// The node of an enhanced for, behind its body: the loop count is not given back.
+pub fn for_node(nodes: &mut [u32], body: Out, keyword: u32, ids: u32, collection: u32) -> Out
+    ensures { λ r. ⌜ ((E : List ℕ) → reply (r .p) (r .got) E (now (nodes .exit)) ≡ andThen (reply (body .p) (body .got) E (now (nodes .entry))) λ stmt q E N. pushNode (rows.enhancedForRow keyword ids collection (stmt .node)) q E N) ⌝ }
+{
+    let k = body.got;
+    let Got::Node(stmt) = k else {
+        return body;
+    };
+    let after = body.p;
+    parser::make(
+        nodes,
+        after,
+        row(
+            Node::ENHANCED_FOR,
+            keyword,
+            0,
+            0,
+            ids,
+            collection,
+            stmt.node,
+            0,
+        ),
+    )
+}
+
 // `brk` and `cont`: they differ in the node's kind.
 pub fn jump(
     tokens: &[u32],
