@@ -12,12 +12,7 @@ use token::Token;
 pub fn parse(tokens: &[u32], errors: &mut [u32], nodes: &mut [u32], recorded: u32) -> Parsed
     ensures { λ r. ⌜ Parsing (parsed (now (tokens .entry)) recorded (now (errors .entry)) (now (nodes .entry))) r (now (errors .exit)) (now (nodes .exit)) ⌝ }
 {
-    let mut s = State {
-        current: 0,
-        errors: recorded,
-        nodes: 0,
-        loops: 0,
-    };
+    let mut s = State::fresh(recorded);
     let mut first = 0;
     let mut last = 0;
     loop {
