@@ -49,12 +49,19 @@ struct Answer kettleplume_next(struct Parser *parser, const u8 *source, usize le
                                usize token_words, u32 *errors, usize error_words, u32 *nodes,
                                usize node_words);
 
+/* The words of each record and the answer that there is more to read come from the compiler's
+ * command line, where src/host/child.rs puts Rust's own numbers. */
+#if !defined TOKEN_WORDS || !defined ERROR_WORDS || !defined NODE_WORDS || !defined MORE
+#error "TOKEN_WORDS, ERROR_WORDS, NODE_WORDS and MORE have to be given"
+#endif
+
 enum {
     GUARD = 8, /* words or bytes on each side of a table */
     SOURCE = 1 << 17,
-    TOKEN_WORDS = 7 * (1 << 16) + 64,
-    ERROR_WORDS = 3 * (1 << 17) + 64,
-    NODE_WORDS = 9 * (1 << 18) + 64,
+    /* the most words of each table */
+    TOKEN_TABLE = TOKEN_WORDS * (1 << 16) + 64,
+    ERROR_TABLE = ERROR_WORDS * (1 << 17) + 64,
+    NODE_TABLE = NODE_WORDS * (1 << 18) + 64,
     BUFFER = 1 << 17,
     PIPE = 1 << 16
 };
@@ -63,12 +70,12 @@ static const u8 GUARD_BYTE = 0x5a;
 
 static u8 source[SOURCE + GUARD];
 static usize source_length;
-static u32 tokens[TOKEN_WORDS + 2 * GUARD];
-static u32 errors[ERROR_WORDS + 2 * GUARD];
-static u32 nodes[NODE_WORDS + 2 * GUARD];
+static u32 tokens[TOKEN_TABLE + 2 * GUARD];
+static u32 errors[ERROR_TABLE + 2 * GUARD];
+static u32 nodes[NODE_TABLE + 2 * GUARD];
 static u8 buffer[BUFFER + 2 * GUARD];
 /* As they were before the last read, and the answers on the way. */
-static u32 kept[TOKEN_WORDS + ERROR_WORDS + NODE_WORDS];
+static u32 kept[TOKEN_TABLE + ERROR_TABLE + NODE_TABLE];
 static u32 so_far[4 * (SOURCE + GUARD)];
 
 static u8 in[PIPE], out[PIPE];
@@ -127,7 +134,7 @@ static void set_source(usize length, u8 behind) {
 }
 
 static void lex(usize token_words, usize error_words, u32 fill) {
-    if (token_words > TOKEN_WORDS || error_words > ERROR_WORDS) exit(2);
+    if (token_words > TOKEN_TABLE || error_words > ERROR_TABLE) exit(2);
     lay(tokens, token_words, fill);
     lay(errors, error_words, fill);
     struct Scanned r = kettleplume_scan(source, source_length, tokens + GUARD, token_words,
@@ -164,7 +171,7 @@ static struct Answer one_at_a_time(usize t, usize e, usize n, u32 *steady, u32 *
     struct Parser parser = none;
     struct Answer r = kettleplume_begin(&parser, source, source_length, tokens + GUARD, t,
                                         errors + GUARD, e, nodes + GUARD, n);
-    for (*count = 0; r.outcome == 19 && *count < source_length + 3; ++*count) {
+    for (*count = 0; r.outcome == MORE && *count < source_length + 3; ++*count) {
         u32 *at = so_far + 4 * *count;
         at[0] = r.tokens, at[1] = r.errors, at[2] = r.nodes, at[3] = r.first;
         r = kettleplume_next(&parser, source, source_length, tokens + GUARD, t, errors + GUARD, e,
@@ -181,7 +188,7 @@ static struct Answer one_at_a_time(usize t, usize e, usize n, u32 *steady, u32 *
 }
 
 static void read_into(u32 pair, usize token_words, usize error_words, usize node_words, u32 fill) {
-    if (token_words > TOKEN_WORDS || error_words > ERROR_WORDS || node_words > NODE_WORDS) exit(2);
+    if (token_words > TOKEN_TABLE || error_words > ERROR_TABLE || node_words > NODE_TABLE) exit(2);
     lay(tokens, token_words, fill);
     lay(errors, error_words, fill);
     lay(nodes, node_words, fill);

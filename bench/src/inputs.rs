@@ -4,11 +4,11 @@
 use std::fs;
 use std::path::Path;
 
+use expected::dice::Dice;
+use expected::maker::Maker;
+use expected::scripts::{around, MORE_WAYS, WAYS};
 use kettleplume::LONGEST;
 use oracle::Stop;
-use readings::dice::Dice;
-use readings::grammar::Maker;
-use readings::scripts::{around, MORE_WAYS, WAYS};
 
 use crate::mixed;
 

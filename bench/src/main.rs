@@ -94,6 +94,7 @@ fn usage() -> ExitCode {
 #[cfg(test)]
 mod tests {
     use super::*;
+    use expected::records::{kind, node, NODE_WORDS};
     use ours::{Library, Tables};
 
     /// All readers make the same of all that is timed.
@@ -112,10 +113,14 @@ mod tests {
         let script = mixed::script(65_500);
         let mut tables = Tables::needed(&script);
         tables.read::<Library>(&script);
-        let mut kinds: Vec<u32> = tables.nodes.chunks(9).map(|node| node[0]).collect();
+        let mut kinds: Vec<u32> = tables
+            .nodes
+            .chunks(NODE_WORDS)
+            .map(|n| n[node::KIND])
+            .collect();
         kinds.sort();
         kinds.dedup();
-        let all: Vec<u32> = (1..=32).filter(|&kind| kind != 17).collect();
+        let all: Vec<u32> = kind::ALL.filter(|&kind| kind != kind::EMPTY).collect();
         assert_eq!(kinds, all);
     }
 }

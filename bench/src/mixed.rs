@@ -1,6 +1,6 @@
 //! Scripts of all forms, made at random but the same in every run. They are read without an error.
 
-use readings::dice::Dice;
+use expected::dice::Dice;
 
 const NAMES: [&str; 24] = [
     "stop",

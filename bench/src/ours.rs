@@ -1,7 +1,7 @@
 //! The proved library, and its own text compiled by rustc: the same calls on the same tables.
 
 use kettleplume::border;
-use kettleplume::tables::{ERROR_WORDS, NODE_WORDS, TOKEN_WORDS};
+use kettleplume::records::{outcome, ERROR_WORDS, NODE_WORDS, TOKEN_WORDS};
 use kettleplume::Rooms;
 
 use crate::same;
@@ -71,7 +71,7 @@ impl Tables {
     /// Room for what the script has and no more: there is nothing to zero.
     pub fn needed(script: &str) -> Tables {
         let [outcome, tokens, errors, nodes, _] = Tables::enough(script).read::<Library>(script);
-        assert_eq!(outcome, 0, "the script is read to its end");
+        assert_eq!(outcome, outcome::DONE, "the script is read to its end");
         Tables::of(Rooms {
             tokens: tokens as usize,
             errors: errors as usize,

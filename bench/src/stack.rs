@@ -5,7 +5,8 @@ use std::env;
 use std::process::{Command, Stdio};
 use std::thread;
 
-use readings::scripts::around;
+use expected::records::outcome;
+use expected::scripts::around;
 
 use crate::ours::{Library, Tables};
 
@@ -118,5 +119,5 @@ pub fn try_stack(way: usize, size: usize) {
     let thread = thread::Builder::new().stack_size(size);
     let read = thread.spawn(move || tables.read::<Library>(&script)[0]);
     let outcome = read.expect("a thread").join().expect("its end");
-    assert_eq!(outcome, 0, "the script is read to its end");
+    assert_eq!(outcome, outcome::DONE, "the script is read to its end");
 }

@@ -6,7 +6,8 @@ use std::slice;
 use crate::dice::Dice;
 use crate::host::{Answer, DecodeAnswer, DecodeCall, Host, LexAnswer, LexCall, ReadCall, Request};
 use crate::whole::{read_differs, Wanted};
-use readings::lexing::{expect, Decoding, Error, Expected, Lexing, Token};
+use expected::lexing::{expect, Decoding, Error, Expected, Lexing, Token};
+use expected::records::{outcome, ERROR_WORDS, TOKEN_WORDS};
 
 /// A source and the calls to make with it.
 #[derive(Debug, Clone)]
@@ -69,8 +70,8 @@ impl Trial {
                 let token_room = lexing.tokens.len() + dice.below(3);
                 let error_room = lexing.errors.len() + dice.below(3);
                 let call = LexCall {
-                    token_words: 7 * token_room + dice.below(7),
-                    error_words: 3 * error_room + dice.below(3),
+                    token_words: TOKEN_WORDS * token_room + dice.below(TOKEN_WORDS),
+                    error_words: ERROR_WORDS * error_room + dice.below(ERROR_WORDS),
                     fill: dice.word() as u32,
                 };
                 trial.calls.push(Call::Lex(call, Want::Exact(lexing)));
@@ -88,14 +89,15 @@ impl Trial {
                         fill: dice.word() as u8,
                     };
                     let bytes = text.bytes;
-                    let want = Decoding { outcome: 0, bytes };
+                    let outcome = outcome::DONE;
+                    let want = Decoding { outcome, bytes };
                     trial.calls.push(Call::Decode(call, want));
                 }
             }
             Expected::Open => {
                 let call = LexCall {
-                    token_words: 7 * (source.len() + 2),
-                    error_words: 3 * source.len(),
+                    token_words: TOKEN_WORDS * (source.len() + 2),
+                    error_words: ERROR_WORDS * source.len(),
                     fill: dice.word() as u32,
                 };
                 trial.calls.push(Call::Lex(call, Want::Open));
@@ -210,14 +212,14 @@ fn lex_differs(call: &LexCall, lexing: &Lexing, answer: &LexAnswer) -> Option<St
     } else if let Some(at) = table_differs(&answer.token_table, token_words, call.fill) {
         Some(format!(
             "the token table, word {} of record {}",
-            at % 7,
-            at / 7
+            at % TOKEN_WORDS,
+            at / TOKEN_WORDS
         ))
     } else if let Some(at) = table_differs(&answer.error_table, error_words, call.fill) {
         Some(format!(
             "the error table, word {} of record {}",
-            at % 3,
-            at / 3
+            at % ERROR_WORDS,
+            at / ERROR_WORDS
         ))
     } else {
         (!answer.intact).then(|| "the guards round the tables".to_string())
@@ -240,11 +242,11 @@ fn open_differs(call: &LexCall, answer: &LexAnswer) -> Option<&'static str> {
         let rest = table.get(words..);
         rest.is_some_and(|rest| rest.iter().all(|&word| word == call.fill))
     };
-    if !matches!(answer.outcome, 0 | 2) {
+    if !matches!(answer.outcome, outcome::DONE | outcome::POINT_AT_END) {
         Some("the outcome, which must be 0 or 2")
-    } else if !unchanged(&answer.token_table, 7 * answer.tokens as usize) {
+    } else if !unchanged(&answer.token_table, TOKEN_WORDS * answer.tokens as usize) {
         Some("the token table behind the records")
-    } else if !unchanged(&answer.error_table, 3 * answer.errors as usize) {
+    } else if !unchanged(&answer.error_table, ERROR_WORDS * answer.errors as usize) {
         Some("the error table behind the records")
     } else {
         (!answer.intact).then_some("the guards round the tables")
@@ -282,8 +284,8 @@ fn show_answer(text: &mut String, call: &LexCall, answer: &LexAnswer) {
     };
     show(text, "answered", &kept);
     let tables = [
-        ("token", &answer.token_table, 7 * tokens),
-        ("error", &answer.error_table, 3 * errors),
+        ("token", &answer.token_table, TOKEN_WORDS * tokens),
+        ("error", &answer.error_table, ERROR_WORDS * errors),
     ];
     for (name, table, kept_words) in tables {
         for (at, word) in table.iter().enumerate().skip(kept_words) {
@@ -303,7 +305,7 @@ fn show(text: &mut String, side: &str, lexing: &Lexing) {
     } = lexing;
     let (t, e) = (tokens.len(), errors.len());
     let _ = writeln!(text, "{side}: outcome {outcome}, {t} tokens, {e} errors");
-    for [kind, start, length, line, sort, low, high] in tokens {
+    for [kind, start, length, line, sort, low, high, ..] in tokens {
         let _ = writeln!(
             text,
             "  token: kind {kind}, start {start}, length {length}, line {line}, value {sort} {low:#x} {high:#x}"

@@ -7,10 +7,28 @@
 
 use std::collections::BTreeMap;
 
+use expected::records::{
+    node, outcome, token, Token, ERROR_WORDS, NODE_WORDS, TOKEN_WORDS, WIDTHS,
+};
 use kettleplume::border::{Answer, Parser};
 
 use crate::dice::Dice;
-use crate::reads::Scripts;
+use crate::parse_scripts::Scripts;
+
+/// Two kinds of tokens, and how many kinds there are.
+const EOF: u32 = oracle::token::Token::EOF as u32;
+const NEWLINE: u32 = oracle::token::Token::Newline as u32;
+pub const KINDS: usize = oracle::token::Token::Catch as usize + 1;
+
+/// The answers of a read that goes on.
+pub const READ: [u32; 6] = [
+    outcome::DONE,
+    outcome::STOPPED,
+    outcome::ERROR_ROOM,
+    outcome::NODE_ROOM,
+    outcome::TOO_DEEP,
+    outcome::MORE,
+];
 
 /// A parser and what is lent beside it.
 #[derive(Debug, Clone, PartialEq)]
@@ -53,15 +71,22 @@ impl Lent {
     /// the token count, the loop count isn't over it, and the last token is the only EOF.
     fn fits(&self) -> bool {
         let p = &self.parser;
-        let (tokens, errors) = (self.tokens.as_chunks::<7>().0, self.errors.len() / 3);
-        let (count, nodes) = (p.tokens as usize, self.nodes.len() / 9);
+        let tokens: &[Token] = self.tokens.as_chunks().0;
+        let [_, errors, nodes] = self.rooms();
+        let count = p.tokens as usize;
         count <= tokens.len()
             && p.errors as usize <= errors
             && p.nodes as usize <= nodes
             && p.last as usize <= nodes
             && p.current < p.tokens
             && p.loops <= p.tokens
-            && tokens[..count].iter().position(|t| t[0] == 0) == Some(count - 1)
+            && tokens[..count].iter().position(|t| t[token::KIND] == EOF) == Some(count - 1)
+    }
+
+    /// How many records each table has room for.
+    fn rooms(&self) -> [usize; 3] {
+        let words = [self.tokens.len(), self.errors.len(), self.nodes.len()];
+        [0, 1, 2].map(|table| words[table] / WIDTHS[table])
     }
 
     /// The answer that the parser holds.
@@ -96,7 +121,7 @@ impl Lent {
             0 => field.wrapping_add(1),
             1 => field.wrapping_sub(1),
             2 => count.wrapping_add(dice.below(3) as u32).wrapping_sub(1),
-            3 => (words[dice.below(3)] / [7, 3, 9][dice.below(3)]) as u32,
+            3 => (words[dice.below(3)] / WIDTHS[dice.below(3)]) as u32,
             4 => dice.below(40) as u32,
             5 => u32::MAX - dice.below(2) as u32,
             _ => dice.word() as u32,
@@ -116,11 +141,15 @@ impl Lent {
         } else if !table.is_empty() {
             let at = dice.below(table.len());
             // A kind, among them EOF, Newline and some that no token has.
-            let at = if dice.one_in(2) { at / 7 * 7 } else { at };
+            let at = if dice.one_in(2) {
+                at / TOKEN_WORDS * TOKEN_WORDS
+            } else {
+                at
+            };
             table[at] = match dice.below(4) {
-                0 => dice.below(2) as u32,
-                1 => 50 + dice.below(3) as u32,
-                2 => dice.below(50) as u32,
+                0 => [EOF, NEWLINE][dice.below(2)],
+                1 => (KINDS + dice.below(3)) as u32,
+                2 => dice.below(KINDS) as u32,
                 _ => dice.word() as u32,
             };
         }
@@ -138,11 +167,11 @@ pub fn damaged(count: usize, seed: u64) -> Result<Counts, String> {
         let source = scripts.any();
         let length = source.len();
         let rooms = [
-            7 * (length + 2),
-            3 * dice.below(length + 3),
-            9 * dice.below(2 * length + 3),
+            TOKEN_WORDS * (length + 2),
+            ERROR_WORDS * dice.below(length + 3),
+            NODE_WORDS * dice.below(2 * length + 3),
         ];
-        let rooms = rooms.map(|words| words + dice.below(9));
+        let rooms = rooms.map(|words| words + dice.below(NODE_WORDS));
         let mut lent = Lent::begun(&source, rooms, dice.word() as u32, dice.below(4));
         for _ in 0..=dice.below(3) {
             if dice.one_in(2) {
@@ -173,7 +202,7 @@ fn wrong(before: &Lent, after: &Lent, answer: &Answer) -> Option<&'static str> {
     }
     if !before.fits() {
         let refusal = Answer {
-            outcome: 18,
+            outcome: outcome::MISMATCH,
             ..Answer::default()
         };
         let same = before == after && *answer == refusal;
@@ -182,10 +211,10 @@ fn wrong(before: &Lent, after: &Lent, answer: &Answer) -> Option<&'static str> {
     if *answer != after.held() {
         return Some("the parser doesn't hold the answer");
     }
-    if !matches!(answer.outcome, 0 | 1 | 6 | 7 | 8 | 19) {
+    if !READ.contains(&answer.outcome) {
         return Some("the outcome");
     }
-    if (answer.outcome == 19) == (after.parser.ended != 0) {
+    if (answer.outcome == outcome::MORE) == (after.parser.ended != 0) {
         return Some("the mark of the end");
     }
     kept(before, after)
@@ -194,11 +223,14 @@ fn wrong(before: &Lent, after: &Lent, answer: &Answer) -> Option<&'static str> {
 /// What a read that goes on leaves: tokens, records before those that it adds, and the counts' order.
 fn kept(before: &Lent, after: &Lent) -> Option<&'static str> {
     let (p, q) = (&before.parser, &after.parser);
-    let [errors, nodes] = [3 * p.errors as usize, 9 * p.nodes as usize];
-    let [new_errors, new_nodes] = [3 * q.errors as usize, 9 * q.nodes as usize];
+    let words = |parser: &Parser| {
+        let (errors, nodes) = (parser.errors as usize, parser.nodes as usize);
+        [ERROR_WORDS * errors, NODE_WORDS * nodes]
+    };
+    let [[errors, nodes], [new_errors, new_nodes]] = [words(p), words(q)];
     let mut linked = before.nodes.clone();
     if p.last > 0 && q.last != p.last {
-        linked[9 * p.last as usize - 1] = q.last;
+        linked[NODE_WORDS * (p.last as usize - 1) + node::NEXT] = q.last;
     }
     // The statement before is linked to the new one, wherever the parser said that it was.
     let same_nodes = after.nodes[..nodes.min(new_nodes)] == linked[..nodes.min(new_nodes)]

@@ -9,26 +9,26 @@ pub mod compare;
 pub mod dice;
 pub mod host;
 pub mod lent;
+pub mod lex_scripts;
 pub mod limits;
 pub mod lists;
+pub mod parse_scripts;
 pub mod patterns;
-pub mod reads;
 pub mod refusals;
 pub mod run;
-pub mod scripts;
 pub mod show;
 pub mod whole;
 
 use compare::{Difference, Trial};
 use dice::Dice;
+use lex_scripts::{any_script, damaged, script};
 use lists::{
     all_of_length, longest, near_keywords, numbers_about_the_limits, singles_and_pairs, ALPHABET,
     IN_NUMBERS, IN_STRINGS,
 };
-use reads::{sequences, Scripts, DIVIDING, INDEXING, TOKENS};
+use parse_scripts::{sequences, Scripts, DIVIDING, INDEXING, TOKENS};
 use refusals::{about_the_longest, between_strings, decodings, rooms, text_edge, text_edges};
 use run::Comparison;
-use scripts::{any_script, damaged, script};
 use whole::reading;
 
 /// How much is compared.

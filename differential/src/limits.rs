@@ -1,14 +1,14 @@
 //! Whole readings at their limits: rooms, levels, counts and lengths.
 
-use oracle::logged::LEVELS;
-use readings::lexing::LONGEST;
-use readings::scripts::{
+use expected::records::{LONGEST, WIDTHS};
+use expected::scripts::{
     around, many, LEFT_OF_EQUAL, MESSAGES, MORE_WAYS, NEWLINES, SMALL, STARS, UNSTARRED, WAYS,
     WORKED,
 };
+use oracle::logged::LEVELS;
 
 use crate::compare::Trial;
-use crate::scripts::{KEYWORDS, MARKS, WRONG};
+use crate::lex_scripts::{KEYWORDS, MARKS, WRONG};
 use crate::whole::Tried;
 
 /// So many pairs of error and node rooms are all tried; of more, some.
@@ -40,7 +40,7 @@ pub fn rooms(source: &[u8]) -> Trial {
         tried.read(rooms);
     }
     tried.read_with([0; 3], [0; 3]);
-    tried.read_with([0; 3], [6, 2, 8]);
+    tried.read_with([0; 3], WIDTHS.map(|width| width - 1));
     tried.trial()
 }
 
@@ -271,8 +271,9 @@ pub fn refusals(source: &[u8]) -> Trial {
 #[cfg(test)]
 mod tests {
     use super::*;
+    use expected::records::outcome::{DONE, TOO_DEEP};
+    use expected::whole::Whole;
     use oracle::on_large_stack;
-    use readings::whole::Whole;
 
     fn outcome(script: Vec<u8>) -> u32 {
         let script = String::from_utf8(script).expect("ASCII");
@@ -287,9 +288,9 @@ mod tests {
     fn every_way_has_its_limit() {
         for (open, inner, close) in ways() {
             let scripts: Vec<_> = depths(open, inner, close).step_by(2).collect();
-            let read = scripts.partition_point(|script| outcome(script.clone()) != 8);
+            let read = scripts.partition_point(|script| outcome(script.clone()) != TOO_DEEP);
             assert!((1..scripts.len()).contains(&read), "{open:?}");
-            assert_eq!(outcome(scripts[read - 1].clone()), 0, "{open:?}");
+            assert_eq!(outcome(scripts[read - 1].clone()), DONE, "{open:?}");
         }
     }
 }

@@ -1,7 +1,7 @@
 //! Lists of scripts that are complete: every one of a kind.
 
-use crate::scripts::{KEYWORDS, MARKS, WRONG};
-use readings::lexing::LONGEST;
+use crate::lex_scripts::{KEYWORDS, MARKS, WRONG};
+use expected::lexing::LONGEST;
 
 /// The bytes that matter to the lexer, one or two of each class, and a letter of two bytes.
 pub const ALPHABET: [&str; 24] = [

@@ -3,9 +3,10 @@
 
 use std::iter::repeat_n;
 
-use readings::lexing::{Lexing, LONGEST};
-use readings::scripts::around;
-use readings::whole::Answer;
+use expected::lexing::{Lexing, LONGEST};
+use expected::records::{kind, message, node, Node, NODE_WORDS};
+use expected::scripts::around;
+use expected::whole::Answer;
 
 use crate::compare::Trial;
 use crate::whole::Tried;
@@ -55,6 +56,16 @@ fn lexed(source: &[u8]) -> Answer {
     }
 }
 
+/// A node record with one token and up to three children.
+fn record(kind: u32, token: u32, children: [u32; 3], next: u32) -> Node {
+    let mut record = [0; NODE_WORDS];
+    record[node::KIND] = kind;
+    record[node::TOKENS[0]] = token;
+    record[node::CHILDREN[0]..][..3].copy_from_slice(&children);
+    record[node::NEXT] = next;
+    record
+}
+
 /// Each two newlines are an Empty statement; with one left over, its own newline is missing.
 fn newlines_come_to(source: &[u8]) -> Answer {
     let mut answer = lexed(source);
@@ -62,12 +73,14 @@ fn newlines_come_to(source: &[u8]) -> Answer {
     for n in 0..statements {
         let (empty, number) = (2 * n + 1, 2 * n + 2);
         let next = if n + 1 < statements { number + 2 } else { 0 };
-        answer.nodes.push([17, 0, 0, 0, 0, 0, 0, 0, 0]);
-        answer.nodes.push([30, 0, 0, 0, empty, 0, 0, 0, next]);
+        answer.nodes.push(record(kind::EMPTY, 0, [0; 3], 0));
+        let stmt = record(kind::EXPR_STMT, 0, [empty, 0, 0], next);
+        answer.nodes.push(stmt);
         answer.so_far.push([0, 2 * n]);
     }
     if source.len() % 2 == 1 {
-        answer.errors.push([4, source.len() as u32 + 1, 0]);
+        let line = source.len() as u32 + 1;
+        answer.errors.push([message::NEW_LINE, line, 0]);
     }
     answer.first = if statements == 0 { 0 } else { 2 };
     answer.statements = statements as usize;
@@ -82,18 +95,18 @@ fn sets_come_to(source: &[u8]) -> Answer {
     let nodes = &mut answer.nodes;
     // References of the last token that was passed, and of the last node.
     let (mut token, mut node) = (levels + 1, 1);
-    nodes.push([2, token, 0, 0, 0, 0, 0, 0, 0]);
+    nodes.push(record(kind::VAR, token, [0; 3], 0));
     for _ in 0..levels {
         let (name, brace) = (token + 2, token + 3);
-        nodes.push([9, name, 0, 0, node, 0, 0, 0, 0]);
-        nodes.push([13, token + 4, 0, 0, 0, 0, 0, 0, 0]);
-        nodes.push([6, brace, 0, 0, node + 1, node + 2, 0, 0, 0]);
-        nodes.push([13, token + 7, 0, 0, 0, 0, 0, 0, 0]);
-        nodes.push([10, name, 0, 0, node, node + 4, node + 3, 0, 0]);
-        nodes.push([12, 0, 0, 0, node + 5, 0, 0, 0, 0]);
+        nodes.push(record(kind::GET, name, [node, 0, 0], 0));
+        nodes.push(record(kind::LITERAL, token + 4, [0; 3], 0));
+        nodes.push(record(kind::ACCESS, brace, [node + 1, node + 2, 0], 0));
+        nodes.push(record(kind::LITERAL, token + 7, [0; 3], 0));
+        nodes.push(record(kind::SET, name, [node, node + 4, node + 3], 0));
+        nodes.push(record(kind::GROUPING, 0, [node + 5, 0, 0], 0));
         (token, node) = (token + 8, node + 6);
     }
-    nodes.push([30, token, 0, 0, node, 0, 0, 0, 0]);
+    nodes.push(record(kind::EXPR_STMT, token, [node, 0, 0], 0));
     answer.first = node + 1;
     answer.statements = 1;
     answer.so_far = vec![[0, 0]];
@@ -103,7 +116,7 @@ fn sets_come_to(source: &[u8]) -> Answer {
 #[cfg(test)]
 mod tests {
     use super::*;
-    use readings::whole::Whole;
+    use expected::whole::Whole;
 
     /// What the original makes of a script.
     fn original(source: &[u8]) -> Answer {

@@ -4,7 +4,8 @@
 use crate::compare::{Call, Trial, Want};
 use crate::dice::Dice;
 use crate::host::{DecodeCall, LexCall};
-use readings::lexing::{expect, expect_decoding, Expected, Lexing, LONGEST};
+use expected::lexing::{expect, expect_decoding, Expected, Lexing, LONGEST};
+use expected::records::{ERROR_WORDS, TOKEN_WORDS};
 
 /// One lexing with each room from none to one more than is needed: for tokens with every spare
 /// tail and enough room for errors, the other way round, and both short at once.
@@ -15,20 +16,22 @@ pub fn rooms(source: &[u8]) -> Trial {
         return trial;
     };
     let (tokens, errors) = (full.tokens.len() + 1, full.errors.len() + 1);
-    for tail in 0..7 {
+    for tail in 0..TOKEN_WORDS {
         for room in 0..=tokens {
-            trial.lex(&full, 7 * room + tail, 3 * errors, &mut dice);
+            let (token_words, error_words) = (TOKEN_WORDS * room + tail, ERROR_WORDS * errors);
+            trial.lex(&full, token_words, error_words, &mut dice);
         }
     }
-    for tail in 0..3 {
+    for tail in 0..ERROR_WORDS {
         for room in 0..=errors {
-            trial.lex(&full, 7 * tokens, 3 * room + tail, &mut dice);
+            let (token_words, error_words) = (TOKEN_WORDS * tokens, ERROR_WORDS * room + tail);
+            trial.lex(&full, token_words, error_words, &mut dice);
         }
     }
     for token_room in 0..=tokens {
         for error_room in 0..=errors {
-            let token_words = 7 * token_room + dice.below(7);
-            let error_words = 3 * error_room + dice.below(3);
+            let token_words = TOKEN_WORDS * token_room + dice.below(TOKEN_WORDS);
+            let error_words = ERROR_WORDS * error_room + dice.below(ERROR_WORDS);
             trial.lex(&full, token_words, error_words, &mut dice);
         }
     }
@@ -39,7 +42,7 @@ pub fn rooms(source: &[u8]) -> Trial {
 impl Trial {
     /// Adds a lexing with tables of so many words; `full` is what it comes to with room enough.
     fn lex(&mut self, full: &Lexing, token_words: usize, error_words: usize, dice: &mut Dice) {
-        let want = full.within(token_words / 7, error_words / 3);
+        let want = full.within(token_words / TOKEN_WORDS, error_words / ERROR_WORDS);
         let call = LexCall {
             token_words,
             error_words,
@@ -86,7 +89,7 @@ pub fn sizes(source: &[u8]) -> Trial {
     if let Expected::Exact(full, _) = expect(source) {
         trial.lex(&full, 0, 0, &mut dice);
         trial.lex(&full, 30, 10, &mut dice);
-        let needed = 7 * full.tokens.len();
+        let needed = TOKEN_WORDS * full.tokens.len();
         trial.lex(&full, needed.saturating_sub(1), 10, &mut dice);
     }
     for start in [0, 1, source.len().saturating_sub(1)] {

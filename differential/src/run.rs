@@ -8,6 +8,7 @@ use std::time::Instant;
 use crate::compare::{run, Call, Difference, Trial, Want};
 use crate::host::{Host, ReadCall};
 use crate::whole::Wanted;
+use expected::records::{error, node};
 
 /// How often a smaller script is tried: some that differ by their length alone can't get smaller.
 const TRIES: usize = 2_000;
@@ -51,8 +52,10 @@ impl Group {
             };
             *self.calls.entry(name).or_default() += 1;
             if let Call::Read(_, Wanted::Exact(answer, _)) = call {
-                self.messages.extend(answer.errors.iter().map(|e| e[0]));
-                self.kinds.extend(answer.nodes.iter().map(|n| n[0]));
+                self.messages
+                    .extend(answer.errors.iter().map(|e| e[error::MESSAGE]));
+                self.kinds
+                    .extend(answer.nodes.iter().map(|n| n[node::KIND]));
             }
         }
     }

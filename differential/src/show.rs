@@ -3,7 +3,7 @@
 use std::fmt::Write as _;
 
 use crate::host::{Answer, DecodeCall, Host, LexAnswer, LexCall, Request};
-use readings::lexing::{Error, Token, LONGEST};
+use expected::records::{sort, Error, Token, ERROR_WORDS, LONGEST, TOKEN_WORDS};
 
 /// The outcome, the tokens and the errors.
 pub fn show(host: &mut Host, source: &[u8]) -> Result<String, String> {
@@ -18,15 +18,15 @@ pub fn show(host: &mut Host, source: &[u8]) -> Result<String, String> {
     let mut texts = texts(host, source, tokens)?.into_iter();
     let (outcome, t, e) = (answer.outcome, tokens.len(), errors.len());
     let mut out = format!("outcome {outcome}, {t} tokens, {e} errors\n");
-    for [kind, start, length, line, sort, low, high] in tokens {
+    for [kind, start, length, line, sort, low, high, ..] in tokens {
         let lexeme = String::from_utf8_lossy(&source[*start as usize..][..*length as usize]);
-        let value = match sort {
-            1 => format!(", text {:?}", texts.next().unwrap_or_default()),
-            2 => {
+        let value = match *sort {
+            sort::TEXT => format!(", text {:?}", texts.next().unwrap_or_default()),
+            sort::NUMBER => {
                 let bits = u64::from(*high) << 32 | u64::from(*low);
                 format!(", number {}", f64::from_bits(bits))
             }
-            3 => ", long number".to_string(),
+            sort::LONG => ", long number".to_string(),
             _ => String::new(),
         };
         let _ = writeln!(out, "token {kind} {lexeme:?}, line {line}{value}");
@@ -42,8 +42,8 @@ pub fn show(host: &mut Host, source: &[u8]) -> Result<String, String> {
 /// Newline and EOF.
 fn lex(host: &mut Host, source: &[u8]) -> Result<LexAnswer, String> {
     let call = LexCall {
-        token_words: 7 * (source.len() + 2),
-        error_words: 3 * source.len(),
+        token_words: TOKEN_WORDS * (source.len() + 2),
+        error_words: ERROR_WORDS * source.len(),
         fill: 0,
     };
     let mut found = None;
@@ -59,8 +59,8 @@ fn lex(host: &mut Host, source: &[u8]) -> Result<LexAnswer, String> {
 /// The decoded strings, in the order of their tokens.
 fn texts(host: &mut Host, source: &[u8], tokens: &[Token]) -> Result<Vec<String>, String> {
     let mut requests = vec![set(source)];
-    for [_, start, _, _, sort, low, _] in tokens {
-        if *sort == 1 {
+    for [_, start, _, _, sort, low, ..] in tokens {
+        if *sort == sort::TEXT {
             requests.push(Request::Decode(DecodeCall {
                 start: u64::from(*start),
                 room: *low as usize,

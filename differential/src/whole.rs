@@ -3,10 +3,11 @@
 use std::fmt::Write as _;
 use std::rc::Rc;
 
+use expected::records::{
+    outcome, Error, Node, Token, ERROR_WORDS, NODE_WORDS, TOKEN_WORDS, WIDTHS,
+};
+use expected::whole::{known, Answer, Known, Whole};
 use kettleplume::Rooms;
-use readings::lexing::{Error, Token};
-use readings::nodes::Node;
-use readings::whole::{known, Answer, Known, Whole};
 
 use crate::compare::{table_differs, Call, Trial};
 use crate::dice::Dice;
@@ -91,7 +92,7 @@ impl Tried {
 
     /// Adds a reading into tables with these rooms and spare tails of any length.
     pub fn read(&mut self, rooms: [usize; 3]) {
-        let tails = [7, 3, 9].map(|width| self.dice.below(width));
+        let tails = WIDTHS.map(|width| self.dice.below(width));
         self.read_with(rooms, tails);
     }
 
@@ -99,9 +100,9 @@ impl Tried {
     pub fn read_with(&mut self, rooms: [usize; 3], tails: [usize; 3]) {
         let call = ReadCall {
             pair: false,
-            token_words: 7 * rooms[0] + tails[0],
-            error_words: 3 * rooms[1] + tails[1],
-            node_words: 9 * rooms[2] + tails[2],
+            token_words: TOKEN_WORDS * rooms[0] + tails[0],
+            error_words: ERROR_WORDS * rooms[1] + tails[1],
+            node_words: NODE_WORDS * rooms[2] + tails[2],
             fill: self.dice.word() as u32,
         };
         let wanted = match &self.known {
@@ -218,9 +219,9 @@ fn way_differs(call: &ReadCall, expected: &Answer, answer: &ReadAnswer) -> Optio
 /// read behind the final answer changed nothing.
 fn words_differ(answer: &ReadAnswer, wanted: [(&[u32], u32); 3]) -> Option<String> {
     let tables = [
-        ("token", &answer.token_table, 7),
-        ("error", &answer.error_table, 3),
-        ("node", &answer.node_table, 9),
+        ("token", &answer.token_table, TOKEN_WORDS),
+        ("error", &answer.error_table, ERROR_WORDS),
+        ("node", &answer.node_table, NODE_WORDS),
     ];
     for ((name, table, width), (words, behind)) in tables.into_iter().zip(wanted) {
         if let Some(at) = table_differs(table, words, behind) {
@@ -253,17 +254,19 @@ fn refused_differs(call: &ReadCall, outcome: u32, answer: &ReadAnswer) -> Option
 
 /// A source that the original can't read gets an answer, and its tables are kept to.
 fn open_differs(call: &ReadCall, answer: &ReadAnswer) -> Option<String> {
-    let behind = |table: &[u32], words: u32, fill| {
-        let rest = table.get(words as usize..);
+    let behind = |table: &[u32], width: usize, count: u32, fill| {
+        let rest = table.get(width * count as usize..);
         rest.is_some_and(|rest| rest.iter().all(|&word| word == fill))
     };
-    if matches!(answer.outcome, 3 | 4) || answer.outcome > 8 {
+    if matches!(answer.outcome, outcome::NO_TEXT | outcome::TOO_LONG)
+        || answer.outcome > outcome::TOO_DEEP
+    {
         Some("the outcome".to_string())
-    } else if !behind(&answer.token_table, 7 * answer.tokens, call.fill) {
+    } else if !behind(&answer.token_table, TOKEN_WORDS, answer.tokens, call.fill) {
         Some("the token table behind the records".to_string())
-    } else if !behind(&answer.error_table, 3 * answer.errors, call.fill) {
+    } else if !behind(&answer.error_table, ERROR_WORDS, answer.errors, call.fill) {
         Some("the error table behind the records".to_string())
-    } else if !behind(&answer.node_table, 9 * answer.nodes, 0) {
+    } else if !behind(&answer.node_table, NODE_WORDS, answer.nodes, 0) {
         Some("the node table behind the records".to_string())
     } else if !answer.steady {
         Some("a read behind the final answer".to_string())

@@ -6,14 +6,14 @@ use differential::blackout::blackout;
 use differential::blackout::pairs::{files, Verdict, PAIRS};
 use differential::blackout::premise::{permitted, permitted_but, Clause, CLAUSES};
 use differential::blackout::tables::Tables;
-use readings::lexing::LONGEST;
-use vectors::sheet::path;
+use expected::lexing::LONGEST;
+use vectors::folders::{path, BLACKOUT};
 
 #[test]
 fn stored_theorems_are_made_by_the_generator() {
     for file in files() {
         let name = format!("proofs/{}.antt", file.name);
-        let stored = fs::read_to_string(path("blackout", &name)).expect("the file is there");
+        let stored = fs::read_to_string(path(BLACKOUT, &name)).expect("the file is there");
         assert!(
             stored == file.text,
             "{name} differs: run `cargo run -p differential -- blackout`"

@@ -3,6 +3,7 @@
 use differential::compare::Difference;
 use differential::run::Comparison;
 use differential::{longest_readings, readings_at_limits, readings_of_all_kinds, ReadSizes};
+use expected::records::{kind, message};
 use oracle::on_large_stack;
 
 const SEED: u64 = 1;
@@ -28,8 +29,8 @@ fn limits() {
     compare(|comparison, sizes, seed| {
         readings_at_limits(comparison, sizes, seed)?;
         let [messages, kinds] = comparison.seen();
-        assert!(messages.into_iter().eq(1..=29));
-        assert!(kinds.into_iter().eq(1..=32));
+        assert!(messages.into_iter().eq(message::ALL));
+        assert!(kinds.into_iter().eq(kind::ALL));
         Ok(())
     });
 }

@@ -69,7 +69,7 @@ pub struct Parser {
 /// Reads a source into three tables: what it makes of it, and every word of the tables afterwards, is
 /// fixed by the definition `reading` for any bytes and tables of any size.
 ///
-/// Word counts are the slices' lengths; a token is 7 words, an error 3, a node 9.
+/// Word counts are the slices' lengths; [`tables`](crate::tables) has how many words a record is.
 pub fn read(source: &[u8], tokens: &mut [u32], errors: &mut [u32], nodes: &mut [u32]) -> Answer {
     // Each pointer and its length are one slice's, and the three tables are lent alone.
     unsafe {

@@ -2,6 +2,8 @@
 
 use std::fmt;
 
+use crate::records::outcome;
+
 /// Why a reading did not come to the end of its script, or why a call was refused.
 ///
 /// A script whose reading ends (document 01's outcome 0) has no such error, though it may have
@@ -63,17 +65,17 @@ impl Error {
     /// Document 01's number.
     pub fn number(self) -> Option<u32> {
         Some(match self {
-            Error::Stopped => 1,
-            Error::PointAtEnd => 2,
-            Error::NoText => 3,
-            Error::TooLong => 4,
-            Error::TokenRoom => 5,
-            Error::ErrorRoom => 6,
-            Error::NodeRoom => 7,
-            Error::TooDeep => 8,
-            Error::NoString => 9,
-            Error::BufferRoom => 10,
-            Error::Mismatch => 18,
+            Error::Stopped => outcome::STOPPED,
+            Error::PointAtEnd => outcome::POINT_AT_END,
+            Error::NoText => outcome::NO_TEXT,
+            Error::TooLong => outcome::TOO_LONG,
+            Error::TokenRoom => outcome::TOKEN_ROOM,
+            Error::ErrorRoom => outcome::ERROR_ROOM,
+            Error::NodeRoom => outcome::NODE_ROOM,
+            Error::TooDeep => outcome::TOO_DEEP,
+            Error::NoString => outcome::NO_STRING,
+            Error::BufferRoom => outcome::BUFFER_ROOM,
+            Error::Mismatch => outcome::MISMATCH,
             Error::TreesTooLarge | Error::OtherTokens => return None,
         })
     }

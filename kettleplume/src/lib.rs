@@ -68,9 +68,9 @@
 //! The library itself allocates nothing. It fills three tables of words that the caller lends, of any
 //! size, and [`border`] has its functions. Each table holds records one behind the other:
 //!
-//! - a token is 7 words: kind, start, length, line, value sort, two value words;
-//! - an error is 3 words: message, line, pos;
-//! - a node is 9 words: kind, three tokens, four children, next.
+//! - a token is [`TOKEN_WORDS`](tables::TOKEN_WORDS) words: kind, start, length, line, value sort, two value words;
+//! - an error is [`ERROR_WORDS`](tables::ERROR_WORDS) words: message, line, pos;
+//! - a node is [`NODE_WORDS`](tables::NODE_WORDS) words: kind, three tokens, four children, next.
 //!
 //! References are index + 1, and 0 is nothing. [`Rooms::enough`] says how many records there can be,
 //! so that no reading ends for want of room; with less room, what was read before is kept.
@@ -89,9 +89,10 @@
 //! assert_eq!((answer.outcome, answer.tokens, answer.nodes), (0, 5, 4));
 //! // The first statement is node 4: an expression, whose last token is the third.
 //! assert_eq!(answer.first, 4);
-//! assert_eq!(nodes[9 * 3..9 * 4], [30, 3, 0, 0, 3, 0, 0, 0, 0]);
+//! assert_eq!(nodes[NODE_WORDS * 3..NODE_WORDS * 4], [30, 3, 0, 0, 3, 0, 0, 0, 0]);
 //! ```
 //!
+//! [`records`] has the kinds of nodes, the outcomes and which word of a record is what, by name.
 //! [`Tables`] does the lending, [`values`] turns token and error records into the original's values, and
 //! [`unfold`] turns nodes into its statements. [`border::Parser`] reads one statement at a time.
 //!
@@ -122,6 +123,7 @@ pub mod error;
 pub mod lexer;
 pub mod messages;
 pub mod parser;
+pub mod records;
 mod script;
 mod stand_in;
 pub mod tables;

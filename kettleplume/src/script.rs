@@ -4,6 +4,7 @@ use std::mem;
 
 use crate::discard::discard;
 use crate::error::Error;
+use crate::records::outcome;
 use crate::state::InterpreterError;
 use crate::stmt::Stmt;
 use crate::tables::{Records, Tables};
@@ -95,7 +96,7 @@ pub(crate) fn statements(
 /// How a reading ended, by its outcome.
 pub(crate) fn ended(outcome: u32) -> Result<(), Error> {
     match outcome {
-        0 => Ok(()),
+        outcome::DONE => Ok(()),
         other => Err(Error::of(other).unwrap_or_else(|| panic!("the library answered {other}"))),
     }
 }

@@ -1,6 +1,7 @@
 //! Reading into the original's state: what stands in for its lexer and its parser.
 
 use crate::error::Error;
+use crate::records::{error, outcome, token};
 use crate::script::{ended, statements};
 use crate::state::InterpreterState;
 use crate::tables::Tables;
@@ -32,8 +33,8 @@ pub(crate) fn lex(state: &mut InterpreterState) -> (Result<(), Error>, i32) {
 
     // Each line is passed by a token or within an error, so the last of them tells it.
     let lines = [
-        records.tokens.last().map_or(1, |t| t[3]),
-        records.errors.last().map_or(1, |e| e[1]),
+        records.tokens.last().map_or(1, |t| t[token::LINE]),
+        records.errors.last().map_or(1, |e| e[error::LINE]),
     ];
     let line = lines[0].max(lines[1]) as i32;
     state.errors.extend(errors);
@@ -75,7 +76,10 @@ pub fn parse(state: &mut InterpreterState) -> Result<(), Error> {
     let source = state.source.as_bytes();
     let records = tables.read(source);
     // What is refused, or stops in lexing, has no tokens to be compared.
-    if matches!(records.answer.outcome, 2..=4) {
+    if matches!(
+        records.answer.outcome,
+        outcome::POINT_AT_END | outcome::NO_TEXT | outcome::TOO_LONG
+    ) {
         return ended(records.answer.outcome);
     }
     let own = records.tokens.iter().map(|t| values::token(source, t));

@@ -2,15 +2,7 @@
 
 use crate::border::{self, Answer, Scanned};
 
-/// The longest source that is read, in bytes.
-pub const LONGEST: usize = 65_535;
-
-/// Words of a token record: kind, start, length, line, value sort, two value words.
-pub const TOKEN_WORDS: usize = 7;
-/// Words of an error record: message, line, pos.
-pub const ERROR_WORDS: usize = 3;
-/// Words of a node record: kind, three tokens, four children, next.
-pub const NODE_WORDS: usize = 9;
+pub use crate::records::{ERROR_WORDS, LONGEST, NODE_WORDS, TOKEN_WORDS};
 
 /// How many records of each sort a source can need.
 #[derive(Debug, Clone, Copy, PartialEq, Eq)]

@@ -16,11 +16,11 @@
 //! error, so that no table leads out of itself or round in a circle.
 
 use crate::expr::*;
+use crate::records::{kind, node};
 use crate::stmt::*;
 use crate::token::{Literal, Token, TokenData};
 
-/// A node: kind, three tokens, four children, next.
-pub type Node = [u32; 9];
+pub use crate::records::Node;
 
 /// A tree, or what is wrong with the table.
 pub type Unfolded<T> = Result<T, String>;
@@ -69,13 +69,13 @@ enum Sort {
 impl Sort {
     fn has(self, kind: u32) -> bool {
         match self {
-            Sort::Expr => (1..=17).contains(&kind),
-            Sort::Stmt => (18..=30).contains(&kind),
-            Sort::Method => kind == 18,
-            Sort::Elif => kind == 31,
-            Sort::Name => kind == 32,
-            Sort::Var => kind == 2,
-            Sort::Access => kind == 6,
+            Sort::Expr => kind::EXPRS.contains(&kind),
+            Sort::Stmt => kind::STMTS.contains(&kind),
+            Sort::Method => kind == kind::FN_STMT,
+            Sort::Elif => kind == kind::ELIF,
+            Sort::Name => kind == kind::NAME,
+            Sort::Var => kind == kind::VAR,
+            Sort::Access => kind == kind::ACCESS,
         }
     }
 }
@@ -93,31 +93,26 @@ fn columns(kind: u32) -> &'static [Holds] {
     use Holds::*;
     use Sort::*;
     match kind {
-        1 | 18 => &[Many(Name), Many(Stmt)],
-        3 | 4 => &[Many(Expr)],
-        5 => &[One(Expr), Maybe(Access)],
-        6 => &[One(Expr), Maybe(Expr), Maybe(Expr), Maybe(Expr)],
-        7 | 14 => &[One(Expr), One(Expr)],
-        8 => &[One(Expr), Many(Expr)],
-        9 | 12 | 16 | 30 => &[One(Expr)],
-        10 => &[One(Expr), One(Expr), Maybe(Access)],
-        19 | 27 => &[Maybe(Expr)],
-        20 => &[Many(Stmt)],
-        21 => &[Many(Method), Many(Method), Maybe(Var)],
-        22 => &[Maybe(Stmt), One(Expr), One(Expr), One(Stmt)],
-        23 => &[Many(Name), One(Expr), One(Stmt)],
-        24 => &[One(Expr), One(Stmt)],
-        25 => &[One(Expr), Many(Stmt), Many(Elif), Many(Stmt)],
-        29 => &[One(Stmt), One(Stmt)],
-        31 => &[One(Expr), Many(Stmt)],
+        kind::FN_EXPR | kind::FN_STMT => &[Many(Name), Many(Stmt)],
+        kind::LIST | kind::DICTIONARY => &[Many(Expr)],
+        kind::ASSIGN => &[One(Expr), Maybe(Access)],
+        kind::ACCESS => &[One(Expr), Maybe(Expr), Maybe(Expr), Maybe(Expr)],
+        kind::BINARY | kind::LOGICAL => &[One(Expr), One(Expr)],
+        kind::CALL => &[One(Expr), Many(Expr)],
+        kind::GET | kind::GROUPING | kind::UNARY | kind::EXPR_STMT => &[One(Expr)],
+        kind::SET => &[One(Expr), One(Expr), Maybe(Access)],
+        kind::LET | kind::RETURN => &[Maybe(Expr)],
+        kind::BLOCK => &[Many(Stmt)],
+        kind::CLASS => &[Many(Method), Many(Method), Maybe(Var)],
+        kind::CLASSIC_FOR => &[Maybe(Stmt), One(Expr), One(Expr), One(Stmt)],
+        kind::ENHANCED_FOR => &[Many(Name), One(Expr), One(Stmt)],
+        kind::WHILE => &[One(Expr), One(Stmt)],
+        kind::IF => &[One(Expr), Many(Stmt), Many(Elif), Many(Stmt)],
+        kind::TRY_CATCH => &[One(Stmt), One(Stmt)],
+        kind::ELIF => &[One(Expr), Many(Stmt)],
         _ => &[],
     }
 }
-
-/// Columns of a node.
-const TOKENS: [usize; 3] = [1, 2, 3];
-const CHILDREN: [usize; 4] = [4, 5, 6, 7];
-const NEXT: usize = 8;
 
 /// So many bytes of text count as much as a node.
 const TEXT: usize = 64;
@@ -142,7 +137,7 @@ impl<'a> Table<'a> {
     }
 
     fn maybe_token(self, n: u32, column: usize) -> Unfolded<Option<&'a TokenData>> {
-        let reference = self.node(n)?[TOKENS[column]];
+        let reference = self.node(n)?[node::TOKENS[column]];
         let Some(index) = (reference as usize).checked_sub(1) else {
             return Ok(None);
         };
@@ -153,7 +148,7 @@ impl<'a> Table<'a> {
 
     /// The reference in a child column, 0 to 3. A child comes before its parent.
     fn child(self, n: u32, column: usize) -> Unfolded<u32> {
-        let child = self.node(n)?[CHILDREN[column]];
+        let child = self.node(n)?[node::CHILDREN[column]];
         if child >= n {
             return Err(format!("node {n} has a child {child}"));
         }
@@ -166,7 +161,7 @@ impl<'a> Table<'a> {
         let mut n = first;
         while n != 0 {
             each(n);
-            let next = self.node(n)?[NEXT];
+            let next = self.node(n)?[node::NEXT];
             if next != 0 && (next <= n || next >= above) {
                 return Err(format!("behind node {n} comes {next}"));
             }
@@ -181,7 +176,7 @@ impl<'a> Table<'a> {
         match holds {
             Holds::Many(_) => (),
             Holds::One(_) if child == 0 => return Err(format!("node {n} has no child {column}")),
-            _ if child != 0 && self.node(child)?[NEXT] != 0 => {
+            _ if child != 0 && self.node(child)?[node::NEXT] != 0 => {
                 return Err(format!("node {child} is no list"))
             }
             _ => (),
@@ -203,7 +198,7 @@ impl<'a> Table<'a> {
         let mut sizes = vec![0u64];
         for (n, node) in (1u32..).zip(self.nodes) {
             let mut size = self.weight(node);
-            for (column, &holds) in columns(node[0]).iter().enumerate() {
+            for (column, &holds) in columns(node[node::KIND]).iter().enumerate() {
                 let add = |m: u32| size = size.saturating_add(sizes[m as usize]);
                 self.children(n, column, holds, add)?;
             }
@@ -214,7 +209,7 @@ impl<'a> Table<'a> {
 
     /// What a node counts without its children.
     fn weight(self, node: &Node) -> u64 {
-        let tokens = TOKENS.map(|column| (node[column] as usize).checked_sub(1));
+        let tokens = node::TOKENS.map(|column| (node[column] as usize).checked_sub(1));
         let tokens = tokens.into_iter().flatten();
         let tokens = tokens.filter_map(|index| self.tokens.get(index));
         1 + (tokens.map(text_length).sum::<usize>() / TEXT) as u64
@@ -271,7 +266,7 @@ impl<'a> Walk<'a> {
     }
 
     fn open(&mut self, n: u32, sort: Sort) -> Unfolded<()> {
-        let kind = self.table.node(n)?[0];
+        let kind = self.table.node(n)?[node::KIND];
         if !sort.has(kind) {
             return Err(format!("node {n} of kind {kind} is no {sort:?}"));
         }
@@ -286,15 +281,15 @@ impl<'a> Walk<'a> {
     }
 
     fn close(&mut self, n: u32) -> Unfolded<()> {
-        match self.table.node(n)?[0] {
-            31 => {
+        match self.table.node(n)?[node::KIND] {
+            kind::ELIF => {
                 let elif = ElifBranch {
                     condition: self.expr_in()?,
                     then_branch: self.stmts(n, 1)?,
                 };
                 self.elifs.push(elif);
             }
-            32 => self.names.push(self.token(n, 0)?),
+            kind::NAME => self.names.push(self.token(n, 0)?),
             kind if Sort::Expr.has(kind) => {
                 let expr = self.expr(n)?;
                 self.exprs.push(expr);
@@ -375,33 +370,33 @@ impl<'a> Walk<'a> {
     }
 
     fn stmt(&mut self, n: u32) -> Unfolded<Stmt> {
-        Ok(match self.table.node(n)?[0] {
-            18 => Stmt::Fn(FnStmt {
+        Ok(match self.table.node(n)?[node::KIND] {
+            kind::FN_STMT => Stmt::Fn(FnStmt {
                 name: self.token(n, 0)?,
                 params: self.names(n, 0)?,
                 body: self.stmts(n, 1)?,
             }),
-            19 => Stmt::Let(LetStmt {
+            kind::LET => Stmt::Let(LetStmt {
                 name: self.token(n, 0)?,
                 initializer: self.maybe_expr(n, 0)?,
             }),
-            20 => Stmt::Block(BlockStmt {
+            kind::BLOCK => Stmt::Block(BlockStmt {
                 stmts: self.stmts(n, 0)?,
             }),
-            21 => Stmt::Class(self.class(n)?),
-            25 => Stmt::If(IfStmt {
+            kind::CLASS => Stmt::Class(self.class(n)?),
+            kind::IF => Stmt::If(IfStmt {
                 keyword: self.token(n, 0)?,
                 condition: self.expr_in()?,
                 then_branch: self.stmts(n, 1)?,
                 elifs: self.elifs(n, 2)?,
                 else_branch: self.stmts(n, 3)?,
             }),
-            29 => Stmt::TryCatch(TryCatchStmt {
+            kind::TRY_CATCH => Stmt::TryCatch(TryCatchStmt {
                 name: self.token(n, 0)?,
                 try_body: self.stmt_in()?,
                 catch_body: self.stmt_in()?,
             }),
-            30 => Stmt::Expr(ExprStmt {
+            kind::EXPR_STMT => Stmt::Expr(ExprStmt {
                 last: self.maybe_token(n, 0)?,
                 expression: self.expr_in()?,
             }),
@@ -413,7 +408,7 @@ impl<'a> Walk<'a> {
     fn with_keyword(&mut self, kind: u32, n: u32) -> Unfolded<Stmt> {
         let keyword = self.token(n, 0)?;
         Ok(match kind {
-            22 => Stmt::ClassicFor(ClassicForStmt {
+            kind::CLASSIC_FOR => Stmt::ClassicFor(ClassicForStmt {
                 keyword,
                 initializer: match self.there(n, 0)? {
                     true => Some(self.stmt_in()?),
@@ -423,23 +418,23 @@ impl<'a> Walk<'a> {
                 increment: self.expr_in()?,
                 body: self.stmt_in()?,
             }),
-            23 => Stmt::EnhancedFor(EnhancedForStmt {
+            kind::ENHANCED_FOR => Stmt::EnhancedFor(EnhancedForStmt {
                 keyword,
                 identifiers: self.names(n, 0)?,
                 collection: self.expr_in()?,
                 body: self.stmt_in()?,
             }),
-            24 => Stmt::While(WhileStmt {
+            kind::WHILE => Stmt::While(WhileStmt {
                 keyword,
                 condition: self.expr_in()?,
                 body: self.stmt_in()?,
             }),
-            26 => Stmt::Continue(ContinueStmt { keyword }),
-            27 => Stmt::Return(ReturnStmt {
+            kind::CONTINUE => Stmt::Continue(ContinueStmt { keyword }),
+            kind::RETURN => Stmt::Return(ReturnStmt {
                 keyword,
                 value: self.maybe_expr(n, 0)?,
             }),
-            28 => Stmt::Break(BreakStmt { keyword }),
+            kind::BREAK => Stmt::Break(BreakStmt { keyword }),
             _ => return Err(format!("node {n} of kind {kind} is no statement")),
         })
     }
@@ -458,39 +453,39 @@ impl<'a> Walk<'a> {
     }
 
     fn expr(&mut self, n: u32) -> Unfolded<Expr> {
-        Ok(match self.table.node(n)?[0] {
-            1 => Expr::Fn(FnExpr {
+        Ok(match self.table.node(n)?[node::KIND] {
+            kind::FN_EXPR => Expr::Fn(FnExpr {
                 params: self.names(n, 0)?,
                 body: self.stmts(n, 1)?,
             }),
-            2 => Expr::Var(VarExpr {
+            kind::VAR => Expr::Var(VarExpr {
                 name: self.maybe_token(n, 0)?,
             }),
-            3 => Expr::List(ListExpr {
+            kind::LIST => Expr::List(ListExpr {
                 elements: self.exprs(n, 0)?,
                 brace: self.token(n, 0)?,
             }),
-            4 => Expr::Dictionary(DictionaryExpr {
+            kind::DICTIONARY => Expr::Dictionary(DictionaryExpr {
                 elements: self.exprs(n, 0)?,
                 curly_brace: self.token(n, 0)?,
             }),
-            8 => Expr::Call(CallExpr {
+            kind::CALL => Expr::Call(CallExpr {
                 callee: self.boxed()?,
                 paren: self.token(n, 0)?,
                 arguments: self.exprs(n, 1)?,
             }),
-            11 => Expr::Super(self.super_expr(n)?),
-            12 => Expr::Grouping(GroupingExpr {
+            kind::SUPER => Expr::Super(self.super_expr(n)?),
+            kind::GROUPING => Expr::Grouping(GroupingExpr {
                 expression: self.boxed()?,
             }),
-            13 => Expr::Literal(LiteralExpr {
+            kind::LITERAL => Expr::Literal(LiteralExpr {
                 value: literal(self.table.token(n, 0)?)?,
             }),
-            15 => Expr::This(ThisExpr {
+            kind::THIS => Expr::This(ThisExpr {
                 keyword: self.token(n, 0)?,
             }),
-            17 => Expr::Empty,
-            5 | 6 | 9 | 10 => self.place(n)?,
+            kind::EMPTY => Expr::Empty,
+            kind::ASSIGN | kind::ACCESS | kind::GET | kind::SET => self.place(n)?,
             kind => self.operation(kind, n)?,
         })
     }
@@ -498,17 +493,17 @@ impl<'a> Walk<'a> {
     fn operation(&mut self, kind: u32, n: u32) -> Unfolded<Expr> {
         let operator = self.token(n, 0)?;
         Ok(match kind {
-            7 => Expr::Binary(BinaryExpr {
+            kind::BINARY => Expr::Binary(BinaryExpr {
                 left: self.boxed()?,
                 operator,
                 right: self.boxed()?,
             }),
-            14 => Expr::Logical(LogicalExpr {
+            kind::LOGICAL => Expr::Logical(LogicalExpr {
                 left: self.boxed()?,
                 operator,
                 right: self.boxed()?,
             }),
-            16 => Expr::Unary(UnaryExpr {
+            kind::UNARY => Expr::Unary(UnaryExpr {
                 operator,
                 right: self.boxed()?,
             }),
@@ -518,14 +513,14 @@ impl<'a> Walk<'a> {
 
     /// What can be assigned to, and what assigns.
     fn place(&mut self, n: u32) -> Unfolded<Expr> {
-        Ok(match self.table.node(n)?[0] {
-            5 => Expr::Assign(AssignExpr {
+        Ok(match self.table.node(n)?[node::KIND] {
+            kind::ASSIGN => Expr::Assign(AssignExpr {
                 name: self.token(n, 0)?,
                 value: self.boxed()?,
                 access: self.maybe_access(n, 1)?,
             }),
-            6 => Expr::Access(self.access(n)?),
-            9 => Expr::Get(GetExpr {
+            kind::ACCESS => Expr::Access(self.access(n)?),
+            kind::GET => Expr::Get(GetExpr {
                 object: self.boxed()?,
                 name: self.token(n, 0)?,
             }),

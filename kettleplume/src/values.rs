@@ -4,9 +4,9 @@
 //! source that was read, and panic where a record can't be one of that source's.
 
 use crate::border;
-use crate::messages::message;
+use crate::messages;
+use crate::records::{self, message, outcome, sort};
 use crate::state::InterpreterError;
-use crate::tables::{ERROR_WORDS, TOKEN_WORDS};
 use crate::token::{Literal, Token, TokenData};
 
 /// The token of a record. Its text is the source's where it stands; what of it isn't UTF-8 in Rust's
@@ -14,15 +14,15 @@ use crate::token::{Literal, Token, TokenData};
 ///
 /// The library's text test takes some bytes for text that Rust doesn't, such as the surrogate ED A0
 /// 80. They can stand only in strings and comments.
-pub fn token(source: &[u8], record: &[u32; TOKEN_WORDS]) -> TokenData {
-    let &[kind, start, length, line, sort, low, high] = record;
+pub fn token(source: &[u8], record: &records::Token) -> TokenData {
+    let &[kind, start, length, line, sort, low, high, ..] = record;
     let (start, length) = (start as usize, length as usize);
     let span = &source[start..start + length];
     let lexeme = text(span);
     let literal = match sort {
-        0 => None,
-        1 => Some(Literal::String(decoded(span, low as usize))),
-        2 => {
+        sort::NONE => None,
+        sort::TEXT => Some(Literal::String(decoded(span, low as usize))),
+        sort::NUMBER => {
             let bits = u64::from(high) << 32 | u64::from(low);
             Some(Literal::Number(f64::from_bits(bits)))
         }
@@ -42,7 +42,8 @@ pub fn token(source: &[u8], record: &[u32; TOKEN_WORDS]) -> TokenData {
 fn decoded(string: &[u8], length: usize) -> String {
     let mut buffer = vec![0; length];
     let answer = border::decode(string, 0, &mut buffer);
-    assert_eq!((answer.outcome, answer.length), (0, length), "a string");
+    let whole = (outcome::DONE, length);
+    assert_eq!((answer.outcome, answer.length), whole, "a string");
     text(&buffer)
 }
 
@@ -51,18 +52,18 @@ fn text(bytes: &[u8]) -> String {
 }
 
 /// The error of a record.
-pub fn error(record: &[u32; ERROR_WORDS]) -> InterpreterError {
-    let &[number, line, pos] = record;
+pub fn error(record: &records::Error) -> InterpreterError {
+    let &[number, line, pos, ..] = record;
     InterpreterError {
-        message: message(number).expect("a message").to_string(),
+        message: messages::message(number).expect("a message").to_string(),
         line: line as i32,
         pos: pos as usize,
     }
 }
 
-/// Whether an error record is the parser's. The lexer has the first three messages.
-pub fn is_parsers(record: &[u32; ERROR_WORDS]) -> bool {
-    record[0] > 3
+/// Whether an error record is the parser's.
+pub fn is_parsers(record: &records::Error) -> bool {
+    !message::LEXERS.contains(&record[records::error::MESSAGE])
 }
 
 /// The kinds by their numbers.

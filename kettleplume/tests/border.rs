@@ -3,10 +3,10 @@
 
 use std::ops::Range;
 
+use expected::lexing::{expect, expect_decoding, Expected};
+use expected::whole::{self, known, Known};
 use kettleplume::border::{decode, read, scan, Answer, Decoded, Parser};
-use kettleplume::tables::{ERROR_WORDS, NODE_WORDS, TOKEN_WORDS};
-use readings::lexing::{expect, expect_decoding, Expected};
-use readings::whole::{self, known, Known};
+use kettleplume::records::{outcome, ERROR_WORDS, LONGEST, NODE_WORDS, TOKEN_WORDS};
 
 /// What stood in a table before.
 const BEFORE: u32 = 0x5a5a_5a5a;
@@ -181,7 +181,7 @@ fn statement_by_statement() {
             ..Parser::default()
         };
         let mut answer = lent.begin(&mut parser, source);
-        while answer.outcome == 19 {
+        while answer.outcome == outcome::MORE {
             answer = lent.next(&mut parser, source);
             statements += 1;
         }
@@ -202,7 +202,7 @@ fn statement_by_statement() {
 fn a_parser_of_other_tables() {
     let (mut lent, mut parser) = (Lent::new([5, 1, 9], 2), Parser::default());
     let refused = Answer {
-        outcome: 18,
+        outcome: outcome::MISMATCH,
         ..Answer::default()
     };
     let before = (lent.clone(), parser);
@@ -236,10 +236,10 @@ fn lexings() {
 #[test]
 fn refused_sources() {
     for (source, outcome) in [
-        (vec![0x80], 3),
-        (b"a = 1\n\xc3".to_vec(), 3),
-        (vec![b'a'; 65_536], 4),
-        (vec![0xff; 65_537], 4),
+        (vec![0x80], outcome::NO_TEXT),
+        (b"a = 1\n\xc3".to_vec(), outcome::NO_TEXT),
+        (vec![b'a'; LONGEST + 1], outcome::TOO_LONG),
+        (vec![0xff; LONGEST + 2], outcome::TOO_LONG),
     ] {
         let refused = Answer {
             outcome,

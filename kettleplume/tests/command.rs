@@ -10,6 +10,7 @@ use std::process::{Command, Output, Stdio};
 use std::sync::atomic::{AtomicUsize, Ordering};
 
 use kettleplume::border::{self, Answer};
+use kettleplume::records::{outcome, token, ERROR_WORDS, NODE_WORDS, TOKEN_WORDS};
 
 /// A folder of one test, with the scripts that it reads.
 struct Folder(PathBuf);
@@ -751,9 +752,13 @@ fn outlines_of_the_proved_program() {
 
 /// What the program `outline` prints, by its rooms, or nothing where one of them is too small.
 fn within_rooms(script: &[u8]) -> Option<String> {
-    let (mut tokens, mut errors, mut nodes) = ([0; 14336], [0; 768], [0; 14400]);
+    let (mut tokens, mut errors, mut nodes) = (
+        [0; TOKEN_WORDS * 2048],
+        [0; ERROR_WORDS * 256],
+        [0; NODE_WORDS * 1600],
+    );
     let answer = border::read(script, &mut tokens, &mut errors, &mut nodes);
-    if script.len() > 4096 || (5..=7).contains(&answer.outcome) {
+    if script.len() > 4096 || (outcome::TOKEN_ROOM..=outcome::NODE_ROOM).contains(&answer.outcome) {
         return None;
     }
     let Answer {
@@ -770,9 +775,9 @@ fn within_rooms(script: &[u8]) -> Option<String> {
             lines.push(format!("{letter} {}", words.join(" ")));
         }
     };
-    table("t", &tokens, 7, 4, t);
-    table("e", &errors, 3, 3, e);
-    table("n", &nodes, 9, 9, n);
+    table("t", &tokens, TOKEN_WORDS, token::SHOWN, t);
+    table("e", &errors, ERROR_WORDS, ERROR_WORDS, e);
+    table("n", &nodes, NODE_WORDS, NODE_WORDS, n);
     Some(lines.join("\n") + "\n")
 }
 

@@ -79,7 +79,7 @@ fn long_chains_as_the_original_reads_them() {
 #[test]
 fn levels_on_a_small_stack() {
     on_stack(1 << 20, || {
-        use readings::scripts::{around, MORE_WAYS, WAYS};
+        use expected::scripts::{around, MORE_WAYS, WAYS};
         for &(open, most, inner, close) in WAYS.iter().chain(MORE_WAYS) {
             let script = read(around(open, most, inner, close));
             assert_eq!(script.end, Ok(()), "{open}");

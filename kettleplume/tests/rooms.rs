@@ -3,14 +3,18 @@
 mod common;
 
 use kettleplume::border;
-use kettleplume::tables::{ERROR_WORDS, NODE_WORDS, TOKEN_WORDS};
+use kettleplume::records::{outcome, ERROR_WORDS, NODE_WORDS, TOKEN_WORDS};
 use kettleplume::{Error, Rooms, Tables, LONGEST};
 
 /// Reads a source with tables of just the rooms that are said to be enough.
 fn has_room(tables: &mut Tables, source: &[u8]) {
     let outcome = tables.read(source).answer.outcome;
     let shown = source.escape_ascii();
-    assert!(!matches!(outcome, 5..=7), "outcome {outcome} of {shown}");
+    let full = matches!(
+        outcome,
+        outcome::TOKEN_ROOM | outcome::ERROR_ROOM | outcome::NODE_ROOM
+    );
+    assert!(!full, "outcome {outcome} of {shown}");
 }
 
 /// All sequences of so many pieces.
@@ -104,8 +108,11 @@ fn the_bound_for_tokens_is_met() {
             border::read(source.as_bytes(), &mut tokens, &mut errors, &mut nodes)
         };
         let answer = read(rooms.tokens);
-        assert_eq!((answer.outcome, answer.tokens as usize), (0, rooms.tokens));
-        assert_eq!(read(rooms.tokens - 1).outcome, 5);
+        assert_eq!(
+            (answer.outcome, answer.tokens as usize),
+            (outcome::DONE, rooms.tokens)
+        );
+        assert_eq!(read(rooms.tokens - 1).outcome, outcome::TOKEN_ROOM);
     }
 }
 

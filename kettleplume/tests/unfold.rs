@@ -1,8 +1,9 @@
 //! Tables of any words unfold to something or to an error: none leads out of itself or in a circle.
 
+use expected::dice::Dice;
+use kettleplume::records::{kind, node, NODE_WORDS};
 use kettleplume::token::{Literal, Token, TokenData};
 use kettleplume::unfold::{statements, statements_within, Node};
-use readings::dice::Dice;
 
 /// Tokens for nodes to refer to: a name, a number, `nil`.
 fn tokens() -> Vec<TokenData> {
@@ -23,10 +24,10 @@ fn tokens() -> Vec<TokenData> {
 fn nodes(dice: &mut Dice) -> Vec<Node> {
     let count = 1 + dice.roll(5);
     let mut node = |n: u64| {
-        let mut words = [0; 9];
-        words[0] = dice.roll(35) as u32;
+        let mut words = [0; NODE_WORDS];
+        words[node::KIND] = dice.roll(35) as u32;
         for (column, word) in words.iter_mut().enumerate().skip(1) {
-            let below = if column < 4 { 5 } else { n + 2 };
+            let below = if column < node::CHILDREN[0] { 5 } else { n + 2 };
             *word = match dice.roll(16) {
                 0 => u32::MAX - dice.roll(2) as u32,
                 1..8 => dice.roll(below) as u32,
@@ -62,8 +63,8 @@ fn any_words() {
 /// What each check is about, in its words.
 #[test]
 fn wrong_tables() {
-    let var = [2, 1, 0, 0, 0, 0, 0, 0, 0];
-    let stmt = |child| [30, 1, 0, 0, child, 0, 0, 0, 0];
+    let var = [kind::VAR, 1, 0, 0, 0, 0, 0, 0, 0];
+    let stmt = |child| [kind::EXPR_STMT, 1, 0, 0, child, 0, 0, 0, 0];
     let told = |nodes: &[Node], first| {
         let told = statements(nodes, &tokens(), first);
         told.expect_err("a wrong table")
@@ -73,17 +74,17 @@ fn wrong_tables() {
     assert_eq!(told(&[var, stmt(2)], 2), "node 2 has a child 2");
     assert_eq!(told(&[var, stmt(3)], 2), "node 2 has a child 3");
     assert_eq!(told(&[var, stmt(0)], 2), "node 2 has no child 0");
-    let looping = [30, 1, 0, 0, 1, 0, 0, 0, 2];
+    let looping = [kind::EXPR_STMT, 1, 0, 0, 1, 0, 0, 0, 2];
     assert_eq!(told(&[var, looping], 2), "behind node 2 comes 2");
-    let leading_out = [30, 1, 0, 0, 1, 0, 0, 0, 3];
+    let leading_out = [kind::EXPR_STMT, 1, 0, 0, 1, 0, 0, 0, 3];
     assert_eq!(told(&[var, leading_out], 2), "behind node 2 comes 3");
-    let listed = [2, 1, 0, 0, 0, 0, 0, 0, 2];
+    let listed = [kind::VAR, 1, 0, 0, 0, 0, 0, 0, 2];
     assert_eq!(told(&[listed, stmt(1)], 2), "node 1 is no list");
-    let nowhere = [2, 4, 0, 0, 0, 0, 0, 0, 0];
+    let nowhere = [kind::VAR, 4, 0, 0, 0, 0, 0, 0, 0];
     assert_eq!(told(&[nowhere, stmt(1)], 2), "node 1 has a token 4");
-    let this = [15, 0, 0, 0, 0, 0, 0, 0, 0];
+    let this = [kind::THIS, 0, 0, 0, 0, 0, 0, 0, 0];
     assert_eq!(told(&[this, stmt(1)], 2), "node 1 has no token 0");
-    let name_as_literal = [13, 1, 0, 0, 0, 0, 0, 0, 0];
+    let name_as_literal = [kind::LITERAL, 1, 0, 0, 0, 0, 0, 0, 0];
     assert_eq!(
         told(&[name_as_literal, stmt(1)], 2),
         "Identifier is no literal"
@@ -93,8 +94,8 @@ fn wrong_tables() {
 /// The limit is on all statements together; those before it are kept.
 #[test]
 fn limits() {
-    let var = [2, 1, 0, 0, 0, 0, 0, 0, 0];
-    let stmt = |child, next| [30, 1, 0, 0, child, 0, 0, 0, next];
+    let var = [kind::VAR, 1, 0, 0, 0, 0, 0, 0, 0];
+    let stmt = |child, next| [kind::EXPR_STMT, 1, 0, 0, child, 0, 0, 0, next];
     let nodes = [var, stmt(1, 4), var, stmt(3, 6), var, stmt(5, 0)];
     for (limit, count) in [
         (0, 0),

@@ -8,8 +8,8 @@ pub(crate) mod judge;
 mod scripts;
 
 use crate::sheet::{hex, Sheet};
-use judge::{ERROR_WIDTH, TOKEN_WIDTH};
-use readings::dice::Dice;
+use expected::dice::Dice;
+use expected::records::{ERROR_WORDS, TOKEN_WORDS};
 
 /// The most words of a table.
 const MOST_WORDS: usize = 4096;
@@ -74,7 +74,7 @@ fn add_script(sheet: &mut Sheet, source: &[u8], token_words: usize, error_words:
 /// A script with room for everything.
 fn add_large(sheet: &mut Sheet, source: &[u8]) {
     let (tokens, errors) = judge::counts(source);
-    assert!(tokens * TOKEN_WIDTH <= MOST_WORDS && errors * ERROR_WIDTH <= MOST_WORDS);
+    assert!(tokens * TOKEN_WORDS <= MOST_WORDS && errors * ERROR_WORDS <= MOST_WORDS);
     add_script(sheet, source, MOST_WORDS, MOST_WORDS);
 }
 
@@ -95,8 +95,8 @@ fn sizes(records: usize, width: usize) -> [usize; 5] {
 /// record too few.
 fn add_short(sheet: &mut Sheet, source: &[u8]) {
     let (tokens, errors) = judge::counts(source);
-    let token_sizes = sizes(tokens, TOKEN_WIDTH);
-    let error_sizes = sizes(errors, ERROR_WIDTH);
+    let token_sizes = sizes(tokens, TOKEN_WORDS);
+    let error_sizes = sizes(errors, ERROR_WORDS);
     for words in token_sizes {
         add_script(sheet, source, words, MOST_WORDS);
         add_script(sheet, source, words, error_sizes[1]);
@@ -117,8 +117,8 @@ fn add_random(sheet: &mut Sheet) {
             continue;
         }
         let (tokens, errors) = judge::counts(&source);
-        let token_words = dice.roll(((tokens + 1) * TOKEN_WIDTH) as u64) as usize;
-        let error_words = dice.roll(((errors + 1) * ERROR_WIDTH) as u64) as usize;
+        let token_words = dice.roll(((tokens + 1) * TOKEN_WORDS) as u64) as usize;
+        let error_words = dice.roll(((errors + 1) * ERROR_WORDS) as u64) as usize;
         add_script(sheet, &source, token_words, error_words);
     }
 }

@@ -1,23 +1,21 @@
-//! Test vectors for the Rattle programs `replay` and `rereads`, and their answers.
+//! Test vectors for the Rattle programs that replay them, and their answers.
 //!
-//! A vector of `replay` is a line of its standard input, its answer a line of its standard output;
-//! `rereads` has scripts as they are, and the tables that whole readings leave.
+//! A vector of the leaves or of lexing is a line of the program's standard input, its answer a line
+//! of its standard output; `whole` has scripts as they are, and the tables that whole readings leave.
 //! The answers come from a judge in Rust that shares nothing with the Rattle code: the original
 //! where it has such a thing, Rust's own library, or a plain rendering of document 01.
 //! `definition` makes theorems instead: scripts with the original's answers, for the prover.
 //! `outlines` makes what the program `outline` has to print.
 
 pub mod definition;
+pub mod folders;
 pub mod leaves;
 pub mod lexing;
 pub mod outlines;
-pub mod rereads;
 pub mod sheet;
+pub mod whole;
 
 use sheet::Sheet;
-
-/// The Rattle program that answers the vectors.
-pub const PROGRAM: &str = "replay";
 
 /// All vectors and answers, with how they were made in front.
 pub fn sheet() -> Sheet {

@@ -1,5 +1,5 @@
-//! `cargo run -p vectors` writes the vectors of the programs `replay` and `rereads` and their answers,
-//! and tells how many there are with each letter. `cargo run -p vectors -- definition` writes the theorems
+//! `cargo run -p vectors` writes the vectors of the programs that replay them and their answers, and
+//! tells how many there are with each letter. `cargo run -p vectors -- definition` writes the theorems
 //! that compare the definition of the reading with the original; with `slow`, or with a seed and a
 //! count, it prints another such file: of scripts that take long to try, or of random ones.
 //! `cargo run -p vectors -- outlines` writes the outlines of `examples/` and what the program
@@ -33,14 +33,14 @@ fn usage() -> ExitCode {
 fn write_vectors() {
     let sheet = vectors::sheet();
     sheet
-        .write(vectors::PROGRAM)
+        .write(vectors::folders::REPLAY)
         .expect("the files are written");
     for (letter, count) in sheet.counts() {
         println!("{letter} {count}");
     }
-    let readings = vectors::rereads::vectors();
-    readings.write_files().expect("the files are written");
-    println!("whole readings {}", readings.count);
+    let whole = vectors::whole::vectors();
+    whole.write_files().expect("the files are written");
+    println!("whole readings {}", whole.count);
 }
 
 fn write_theorems() {

@@ -3,14 +3,15 @@
 //! the script is no text, the outcome and what is kept follow document 01 and stand beside the
 //! script.
 
-use std::path::{Path, PathBuf};
+use std::path::PathBuf;
 use std::{fs, iter};
 
+use expected::records::outcome;
 use oracle::on_large_stack;
 
 use crate::definition::{case, End, Script};
+use crate::folders::{path, root, OUTCOMES};
 use crate::lexing::judge::token_words;
-use crate::sheet::path;
 
 /// The most bytes that `outline` has room for, and its rooms for tokens, errors and nodes.
 const MOST_BYTES: usize = 4096;
@@ -19,12 +20,12 @@ const ROOMS: [usize; 3] = [2048, 256, 1600];
 /// The outline of a script. `ends` is an outcome that the original doesn't know, with how many
 /// tokens, errors and top-level statements are kept.
 pub fn outline(source: &[u8], ends: Option<(u32, [usize; 3])>) -> String {
-    let head = |outcome| format!("o {outcome} 0 0 0 0\n");
+    let head = |outcome: u32| format!("o {outcome} 0 0 0 0\n");
     if source.len() > MOST_BYTES {
-        return head(4);
+        return head(outcome::TOO_LONG);
     }
-    if let Some((3, _)) = ends {
-        return head(3);
+    if let Some((outcome::NO_TEXT, _)) = ends {
+        return head(outcome::NO_TEXT);
     }
     let script = Script {
         text: source.iter().map(|b| char::from(*b)).collect(),
@@ -81,18 +82,18 @@ pub fn endings() -> Vec<Ending> {
         known("let stop = 8\nlet pitch = 2.66"),
         Ending {
             script: b"let stop = \"Salicional\xff\"\n".to_vec(),
-            ends: Some((3, [0; 3])),
+            ends: Some((outcome::NO_TEXT, [0; 3])),
         },
         known(&"a".repeat(4097)),
         // 2,047 marks and the closing Newline; EOF finds no room.
-        ending("(".repeat(2047), 5, [2048, 0, 0]),
-        ending("$".repeat(257), 6, [0, 256, 0]),
-        ending("break\n".repeat(257), 6, [515, 256, 256]),
+        ending("(".repeat(2047), outcome::TOKEN_ROOM, [2048, 0, 0]),
+        ending("$".repeat(257), outcome::ERROR_ROOM, [0, 256, 0]),
+        ending("break\n".repeat(257), outcome::ERROR_ROOM, [515, 256, 256]),
         // 801 names and 800 sums behind a statement of two nodes.
-        ending(format!("a\n{sum}\n"), 7, [1605, 0, 1]),
+        ending(format!("a\n{sum}\n"), outcome::NODE_ROOM, [1605, 0, 1]),
         ending(
             format!("let a\n{}a{}\n", "(".repeat(127), ")".repeat(127)),
-            8,
+            outcome::TOO_DEEP,
             [260, 0, 1],
         ),
         // The longest script, and the most brackets.
@@ -107,8 +108,7 @@ pub fn endings() -> Vec<Ending> {
 
 /// The repository's example scripts, in the order of their names.
 pub fn examples() -> Vec<PathBuf> {
-    let folder = Path::new(env!("CARGO_MANIFEST_DIR")).join("../examples");
-    let mut scripts: Vec<PathBuf> = fs::read_dir(folder)
+    let mut scripts: Vec<PathBuf> = fs::read_dir(root().join("examples"))
         .expect("the folder is there")
         .map(|entry| entry.expect("an entry").path())
         .filter(|path| path.extension().is_some_and(|e| e == "gr"))
@@ -131,11 +131,8 @@ pub fn files() -> Vec<(PathBuf, Vec<u8>)> {
     assert!(scripts.len() <= 26, "a letter for each");
     for (letter, ending) in ('a'..='z').zip(scripts) {
         stdout += &outline(&ending.script, ending.ends);
-        files.push((
-            path("outcomes", &format!("data/{letter}.gr")),
-            ending.script,
-        ));
+        files.push((path(OUTCOMES, &format!("data/{letter}.gr")), ending.script));
     }
-    files.push((path("outcomes", "stdout"), stdout.into_bytes()));
+    files.push((path(OUTCOMES, "stdout"), stdout.into_bytes()));
     files
 }

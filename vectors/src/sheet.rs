@@ -2,8 +2,9 @@
 
 use std::collections::{BTreeMap, HashSet};
 use std::fmt::{Display, Write};
-use std::path::PathBuf;
 use std::{fs, io};
+
+use crate::folders::path;
 
 /// A program reads all of its input into a buffer of this size.
 const INPUT_LIMIT: usize = 262_144;
@@ -57,14 +58,6 @@ impl Sheet {
         fs::write(path(program, "stdin"), &self.stdin)?;
         fs::write(path(program, "stdout"), &self.stdout)
     }
-}
-
-/// Where a Rattle program of this repository keeps a file.
-pub fn path(program: &str, file: &str) -> PathBuf {
-    PathBuf::from(env!("CARGO_MANIFEST_DIR"))
-        .join("../crates")
-        .join(program)
-        .join(file)
 }
 
 /// A byte string as a field: lower-case hexadecimal, and a dash if it is empty.

@@ -3,8 +3,8 @@
 
 use std::collections::BTreeSet;
 use std::fs;
+use vectors::folders::{path, OUTCOMES, OUTLINE};
 use vectors::outlines::{examples, files, outline};
-use vectors::sheet::path;
 
 #[test]
 fn stored_outlines_are_made_by_the_generator() {
@@ -20,7 +20,7 @@ fn stored_outlines_are_made_by_the_generator() {
 
 #[test]
 fn every_outcome_occurs() {
-    let stdout = fs::read_to_string(path("outcomes", "stdout")).expect("the file is there");
+    let stdout = fs::read_to_string(path(OUTCOMES, "stdout")).expect("the file is there");
     let outcomes: BTreeSet<&str> = stdout
         .lines()
         .filter(|line| line.starts_with('o'))
@@ -33,7 +33,7 @@ fn every_outcome_occurs() {
 
 #[test]
 fn the_worked_example_of_document_01() {
-    let read = |file| fs::read(path("outline", file)).expect("the file is there");
+    let read = |file| fs::read(path(OUTLINE, file)).expect("the file is there");
     assert_eq!(read("stdin"), b"a = 1\n");
     assert_eq!(outline(b"a = 1\n", None).into_bytes(), read("stdout"));
 }

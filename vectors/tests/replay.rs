@@ -4,15 +4,14 @@
 use std::collections::BTreeSet;
 use std::fs;
 use std::str::from_utf8;
+use vectors::folders::{path, REPLAY};
 use vectors::leaves::text::is_text;
-use vectors::sheet::path;
-use vectors::PROGRAM;
 
 #[test]
 fn stored_files_are_made_by_the_generator() {
     let sheet = vectors::sheet();
     for (file, made) in [("stdin", &sheet.stdin), ("stdout", &sheet.stdout)] {
-        let stored = fs::read_to_string(path(PROGRAM, file)).expect("the file is there");
+        let stored = fs::read_to_string(path(REPLAY, file)).expect("the file is there");
         assert!(
             stored == *made,
             "{file} differs: run `cargo run -p vectors`"

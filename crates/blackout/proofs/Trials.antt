@@ -5,6 +5,7 @@ use mathlib.Core.Bool.{Bool}
 use mathlib.Core.List.{List, [], _∷_, _++_}
 use lib.ListN.{replicate, take}
 use Rattle.token.specs.Keyword.{same}
+use Rattle.records.specs.Table.{tokenWidth, errorWidth, nodeWidth}
 use Rattle.reader.specs.Reading.{Reading, reading}
 use Rattle.reader.proofs.Codes.{codes}
 use Rattle.blackout.specs.Blackout.{blackout}
@@ -21,13 +22,13 @@ pub data Both : Type 0 where
 abbrev pub kept : Reading → List ℕ
 kept r =
     r .outcome ∷ r .tokenCount ∷ r .errorCount ∷ r .nodeCount ∷ r .first ∷
-    take (7 * r .tokenCount) (r .tokens) ++
-    take (3 * r .errorCount) (r .errors) ++
-    take (9 * r .nodeCount) (r .nodes)
+    take (tokenWidth * r .tokenCount) (r .tokens) ++
+    take (errorWidth * r .errorCount) (r .errors) ++
+    take (nodeWidth * r .nodeCount) (r .nodes)
 
 -- a reading into tables that are large enough here, and held the word w
 abbrev pub readInto : ℕ → List ℕ → List ℕ
-readInto w s = kept (reading s (replicate (7 * 24) w) (replicate (3 * 12) w) (replicate (9 * 24) w))
+readInto w s = kept (reading s (replicate (tokenWidth * 24) w) (replicate (errorWidth * 12) w) (replicate (nodeWidth * 24) w))
 
 -- what the definitions say of a pair; the tables of the two readings held other words
 abbrev pub answer : Pair → List Bool

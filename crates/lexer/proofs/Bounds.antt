@@ -7,6 +7,8 @@ use native.Mathlib.Omega.{arith}
 use lib.Dec.{eqb}
 use lib.ListN.{length, getD, drop, length-drop}
 use lib.Seq.{drop-cons}
+use Rattle.token.specs.Kind.{EOF}
+use Rattle.records.specs.Messages.{loneBang}
 use Rattle.spans.specs.Span.{isAlpha, isInner}
 use Rattle.spans.proofs.Run.{run-le}
 use Rattle.numbers.proofs.Join.{number-le}
@@ -28,7 +30,7 @@ either true k x y h i = h
 either false k x y h i = i
 
 lone-bounded : (k n : ℕ) → Bounded (suc n) (lone k)
-lone-bounded k n = either (eqb k 0) (suc n) (Wrong 1 1 0) (Mark k 1 0) (omega arith) (omega arith)
+lone-bounded k n = either (eqb k EOF) (suc n) (Wrong loneBang 1 0) (Mark k 1 0) (omega arith) (omega arith)
 
 pair-bounded : (k l : ℕ) (s : List ℕ) → Bounded (suc (length s)) (pairAt k l s)
 pair-bounded k l [] = lone-bounded k 0

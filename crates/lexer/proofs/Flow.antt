@@ -5,7 +5,10 @@ use mathlib.Core.List.{List, []}
 use Prim.Native.Nat.{ℕ, _+_}
 use native.Mathlib.Nat.{add-zero}
 use lib.Dec.{ltb, eqb}
+use Rattle.token.specs.Kind as kinds
+use Rattle.numbers.specs.declared.Numeral.{Numeral}
 use Rattle.records.specs.Table.{room, tokenWidth, errorWidth}
+use Rattle.records.specs.Outcomes as outcomes
 use Rattle.lexer.specs.declared.Lexer.{Lexer}
 use Rattle.lexer.specs.declared.Scanned.{Scanned}
 use Rattle.lexer.specs.declared.Next.{Next}
@@ -14,7 +17,7 @@ use Rattle.lexer.specs.declared.Item.{Item}
 use Rattle.lexer.specs.declared.Item.the-variants.{Space, Comment, Name, Text, Number, Mark, Wrong}
 use Rattle.lexer.specs.Items.{sizeOf, linesOf}
 use Rattle.lexer.specs.Lex.{noValue}
-use Rattle.lexer.specs.Steps.{pickNext, Did, pickDid, onIn, emitNext, emitTable, emitIn, stepIn, closeIn, ended, Done, thenIn, eofIn, finishIn, numberWords, Does, Ends}
+use Rattle.lexer.specs.Steps.{pickNext, Did, pickDid, onIn, emitNext, emitTable, emitIn, stepIn, closeIn, ended, Done, thenIn, eofIn, finishIn, numberWords, numberIn, Does, Ends}
 
 -- ---- on with the next state, or the end
 module _ (x : Next) (t e : List ℕ) (l : Lexer) (k : Lexer → List ℕ → List ℕ → Done) (r : Scanned) where
@@ -48,6 +51,18 @@ module _ (b : Bool) (x y : Did) (r : Next) (t e : List ℕ) where
 pub does-as : (x y : Item) (l : Lexer) (t e : List ℕ) (r : Next) (t′ e′ : List ℕ) → x ≡ y → Does (stepIn y l t e) r t′ e′ → Does (stepIn x l t e) r t′ e′
 does-as x y l t e r t′ e′ h d = subst⁻¹ (λ (z : Item). Does (stepIn z l t e) r t′ e′) h d
 
+-- ---- a number leaves the errors alone, whatever they are
+pub number-errors : (x : Numeral) (l : Lexer) (t e : List ℕ) (r : Next) (t′ : List ℕ) → Does (numberIn x l t []) r t′ [] → Does (numberIn x l t e) r t′ e
+number-errors x l t e r t′ = at (x .cut)
+  where
+    d : Bool → List ℕ → Did
+    d b f = pickDid b (record { next = Stop outcomes.numberAtEnd; tokens = t; errors = f })
+        (emitIn l kinds.Number (x .size) 0 (numberWords l (x .size) (x .whole) (x .places)) t f)
+
+    at : (b : Bool) → Does (d b []) r t′ [] → Does (d b e) r t′ e
+    at true h = record { next-is = h .next-is; tokens-are = h .tokens-are; errors-are = refl }
+    at false h = record { next-is = h .next-is; tokens-are = h .tokens-are; errors-are = refl }
+
 -- ---- rule 7 leaves the errors alone, whatever they are
 abbrev pub withErrors : List ℕ → Done → Done
 withErrors e d = record { answer = d .answer; tokens = d .tokens; errors = e }
@@ -59,16 +74,16 @@ then-errors (Stop o) t e l k h = refl
 
 eof-errors : (l : Lexer) (t e : List ℕ) → eofIn l t e ≡ withErrors e (eofIn l t [])
 eof-errors l t e =
-    then-errors (emitNext l 0 0 0 t) (emitTable l 0 0 0 noValue t) e l (λ m u f. record { answer = ended 0 m; tokens = u; errors = f }) (λ m. refl)
+    then-errors (emitNext l kinds.EOF 0 0 t) (emitTable l kinds.EOF 0 0 noValue t) e l (λ m u f. record { answer = ended outcomes.ended m; tokens = u; errors = f }) (λ m. refl)
 
 finish-errors : (l : Lexer) (t e : List ℕ) → finishIn l t e ≡ withErrors e (finishIn l t [])
-finish-errors l t e = go (ltb 0 (l .tokens) && not (eqb (l .last) 1))
+finish-errors l t e = go (ltb 0 (l .tokens) && not (eqb (l .last) kinds.Newline))
   where
     d : Bool → List ℕ → Did
-    d b f = pickDid b (emitIn l 1 0 0 noValue t f) (onIn l t f)
+    d b f = pickDid b (emitIn l kinds.Newline 0 0 noValue t f) (onIn l t f)
 
     go : (b : Bool) → thenIn (d b e .next) (d b e .tokens) (d b e .errors) l eofIn ≡ withErrors e (thenIn (d b [] .next) (d b [] .tokens) (d b [] .errors) l eofIn)
-    go true = then-errors (emitNext l 1 0 0 t) (emitTable l 1 0 0 noValue t) e l eofIn (λ m. eof-errors m (emitTable l 1 0 0 noValue t) e)
+    go true = then-errors (emitNext l kinds.Newline 0 0 t) (emitTable l kinds.Newline 0 0 noValue t) e l eofIn (λ m. eof-errors m (emitTable l kinds.Newline 0 0 noValue t) e)
     go false = eof-errors l t e
 
 pub finished : (l : Lexer) (t e t′ : List ℕ) (r : Scanned) → Ends (finishIn l t []) r t′ [] → Ends (finishIn l t e) r t′ e
@@ -88,22 +103,22 @@ either true l n k x y h i = h
 either false l n k x y h i = i
 
 emit-moved : (l : Lexer) (kind n k : ℕ) (t : List ℕ) → Moved l n k (emitNext l kind n k t)
-emit-moved l kind n k t = picked (ltb (l .tokens) (room tokenWidth t)) l _ n k 5 (refl, refl)
+emit-moved l kind n k t = picked (ltb (l .tokens) (room tokenWidth t)) l _ n k outcomes.noTokenRoom (refl, refl)
 
 pub close-moved : (l : Lexer) (t e : List ℕ) → Moved l 0 0 (closeIn l t e .next)
 close-moved l t e =
-    either (ltb 0 (l .tokens) && not (eqb (l .last) 1)) l 0 0 (emitIn l 1 0 0 noValue t e) (onIn l t e) (emit-moved l 1 0 0 t)
+    either (ltb 0 (l .tokens) && not (eqb (l .last) kinds.Newline)) l 0 0 (emitIn l kinds.Newline 0 0 noValue t e) (onIn l t e) (emit-moved l kinds.Newline 0 0 t)
     (sym (add-zero (l .current)), sym (add-zero (l .line)))
 
 pub step-moved : (x : Item) (l : Lexer) (t e : List ℕ) → Moved l (sizeOf x) (linesOf x) (stepIn x l t e .next)
 step-moved Space l t e = (refl, sym (add-zero (l .line)))
 step-moved (Comment n) l t e = (refl, sym (add-zero (l .line)))
 step-moved (Name k n) l t e = emit-moved l k n 0 t
-step-moved (Text n m d) l t e = emit-moved l 26 n m t
+step-moved (Text n m d) l t e = emit-moved l kinds.String n m t
 step-moved (Number x) l t e =
-    either (x .cut) l (x .size) 0 (record { next = Stop 2; tokens = t; errors = e }) (emitIn l 27 (x .size) 0 (numberWords l (x .size) (x .whole) (x .places)) t e) tt (emit-moved l 27 (x .size) 0 t)
+    either (x .cut) l (x .size) 0 (record { next = Stop outcomes.numberAtEnd; tokens = t; errors = e }) (emitIn l kinds.Number (x .size) 0 (numberWords l (x .size) (x .whole) (x .places)) t e) tt (emit-moved l kinds.Number (x .size) 0 t)
 step-moved (Mark k n m) l t e = emit-moved l k n m t
-step-moved (Wrong message n m) l t e = picked (ltb (l .errors) (room errorWidth e)) l _ n m 6 (refl, refl)
+step-moved (Wrong message n m) l t e = picked (ltb (l .errors) (room errorWidth e)) l _ n m outcomes.noErrorRoom (refl, refl)
 
 pub moved : (x : Next) (l m : Lexer) (n k : ℕ) → Moved l n k x → x ≡ On m → Moved l n k (On m)
 moved x l m n k h e = subst (Moved l n k) e h

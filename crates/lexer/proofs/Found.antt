@@ -8,11 +8,13 @@ use native.Mathlib.Omega.{arith}
 use borrow.Author.Tests.{eq-eqb, ne-eqb}
 use lib.ListN.{length, getD, take, drop, drop-of-length-le}
 use lib.Seq.{drop-cons}
+use Rattle.token.specs.Kind.{EOF}
 use Rattle.token.specs.Keyword.{keywordOf, part}
 use Rattle.spans.specs.Span.{isAlpha, isDigit, isInner, run}
 use Rattle.numbers.specs.Number.{numberAt}
 use Rattle.strings.specs.declared.Ended.{Ended}
 use Rattle.strings.specs.declared.Ended.the-variants.{Closed, Broken}
+use Rattle.records.specs.Messages.{loneBang, unclosedString}
 use Rattle.lexer.specs.declared.Sign.{Sign}
 use Rattle.lexer.specs.declared.Item.the-variants.{Comment, Name, Text, Number, Mark, Wrong}
 use Rattle.lexer.specs.Items.{letter, digit, sign, pickClass, signOf, pickItem, nameAt, textItem, lone, pairAt, itemAs, itemAt}
@@ -21,8 +23,8 @@ use Rattle.lexer.specs.Items.{letter, digit, sign, pickClass, signOf, pi
 pub closed : (x : Ended) (n m l : ℕ) → x ≡ Closed n m l → Text (n + 1) m l ≡ textItem x
 closed x n m l e = ap (λ (k : ℕ). Text k m l) (add-one n) ∙ ap textItem (sym e)
 
-pub broken : (x : Ended) (n m : ℕ) → x ≡ Broken n m → Wrong 3 (n + 1) m ≡ textItem x
-broken x n m e = ap (λ (k : ℕ). Wrong 3 k m) (add-one n) ∙ ap textItem (sym e)
+pub broken : (x : Ended) (n m : ℕ) → x ≡ Broken n m → Wrong unclosedString (n + 1) m ≡ textItem x
+broken x n m e = ap (λ (k : ℕ). Wrong unclosedString k m) (add-one n) ∙ ap textItem (sym e)
 
 -- ---- a mark that may have = after it
 module _ (s : List ℕ) (j k l : ℕ) where
@@ -36,11 +38,11 @@ module _ (s : List ℕ) (j k l : ℕ) where
   pub at-the-end : length s ≤ j → pairAt k l (drop j s) ≡ lone k
   at-the-end h = ap (pairAt k l) (drop-of-length-le s h)
 
-pub lone-none : (k : ℕ) → k ≡ 0 → lone k ≡ Wrong 1 1 0
-lone-none k e = ap (λ (t : Bool). pickItem t (Wrong 1 1 0) (Mark k 1 0)) (eq-eqb k 0 e)
+pub lone-none : (k : ℕ) → k ≡ EOF → lone k ≡ Wrong loneBang 1 0
+lone-none k e = ap (λ (t : Bool). pickItem t (Wrong loneBang 1 0) (Mark k 1 0)) (eq-eqb k EOF e)
 
-pub lone-mark : (k : ℕ) → (k ≡ 0 → ⊥) → lone k ≡ Mark k 1 0
-lone-mark k e = ap (λ (t : Bool). pickItem t (Wrong 1 1 0) (Mark k 1 0)) (ne-eqb k 0 e)
+pub lone-mark : (k : ℕ) → (k ≡ EOF → ⊥) → lone k ≡ Mark k 1 0
+lone-mark k e = ap (λ (t : Bool). pickItem t (Wrong loneBang 1 0) (Mark k 1 0)) (ne-eqb k EOF e)
 
 -- ---- the item at i, by its first byte
 module _ (s : List ℕ) (i : ℕ) (h : i < length s) where

@@ -9,11 +9,11 @@ use borrow.Author.Tests.{ltb-true, ltb-false, lt-ltb, le-ltb}
 use lib.Dec.{ltb, eqb}
 use lib.ListN.{length, take, drop, take-append-drop}
 use lib.Seq.{length-take-le, drop-drop}
+use Rattle.token.specs.Kind as kinds
 use Rattle.literal.specs.declared.Words.{Words}
-use Rattle.literal.specs.Value.{wordsOf}
-use Rattle.literal.specs.declared.Literal.the-variants as literals
 use Rattle.records.specs.Table.{room, put, tokenWidth, errorWidth}
 use Rattle.records.specs.Words.{tokenWords, errorWords}
+use Rattle.records.specs.Outcomes as outcomes
 use Rattle.records.proofs.Room.{room-fits, room-length, next-start}
 use Rattle.records.proofs.Put.{put-none, put-take, put-drop, put-length}
 use Rattle.text.specs.Text.{isText}
@@ -25,7 +25,7 @@ use Rattle.lexer.specs.declared.Item.{Item}
 use Rattle.lexer.specs.declared.Item.the-variants.{Space, Comment, Name, Text, Number, Mark, Wrong}
 use Rattle.lexer.specs.Items.{items}
 use Rattle.lexer.specs.Lex.{State, Result, Onward, go, stop, pickOnward, kept, andThen, noValue, token, error, step, closing, finish, emit, lexed, refusal, pickResult, lexedOf, Lexing}
-use Rattle.lexer.specs.Steps.{pickNext, Did, pickDid, onIn, emitNext, emitTable, emitIn, errorNext, errorTable, tokenMore, tokenOf, errorMore, errorOf, numberWords, stepIn, closeIn, ended, Done, thenIn, eofIn, finishIn, scanIn, start, Ends}
+use Rattle.lexer.specs.Steps.{pickNext, Did, pickDid, onIn, emitNext, emitTable, emitIn, errorNext, errorTable, tokenMore, tokenOf, errorMore, errorOf, stringWords, numberWords, stepIn, closeIn, ended, Done, thenIn, eofIn, finishIn, scanIn, start, Ends}
 
 -- ---- a table t that was u at first, with n records of w words written at its front
 pub record Grown (w : ℕ) (u t : List ℕ) (n : ℕ) : Type 0 where
@@ -133,7 +133,7 @@ module _ (u f : List ℕ) where
     token-agrees kind n m w =
         let ws = tokenWords (tokenOf l kind n m w) in
         let r = room tokenWidth t in
-        push-agrees (ltb (l .tokens) r) _ _ (tokenMore l kind n m) 5 t e _ e (ap (ltb (l .tokens)) (sym (grown-room tokenWidth u t (l .tokens) (g .0))))
+        push-agrees (ltb (l .tokens) r) _ _ (tokenMore l kind n m) outcomes.noTokenRoom t e _ e (ap (ltb (l .tokens)) (sym (grown-room tokenWidth u t (l .tokens) (g .0))))
         (λ h. (
           ap (λ (x : List ℕ). withTokens (stateOf (tokenMore l kind n m) t e) x) (sym (put-take tokenWidth t (l .tokens) ws refl (ltb-true (l .tokens) r h))),
           (grown-put tokenWidth u t (l .tokens) ws refl (ltb-true (l .tokens) r h) (g .0), g .1),
@@ -145,7 +145,7 @@ module _ (u f : List ℕ) where
     error-agrees message n m =
         let ws = errorWords (errorOf l message m) in
         let r = room errorWidth e in
-        push-agrees (ltb (l .errors) r) _ _ (errorMore l n m) 6 t e t _ (ap (ltb (l .errors)) (sym (grown-room errorWidth f e (l .errors) (g .1))))
+        push-agrees (ltb (l .errors) r) _ _ (errorMore l n m) outcomes.noErrorRoom t e t _ (ap (ltb (l .errors)) (sym (grown-room errorWidth f e (l .errors) (g .1))))
         (λ h. (
           ap (λ (x : List ℕ). withErrors (stateOf (errorMore l n m) t e) x) (sym (put-take errorWidth e (l .errors) ws refl (ltb-true (l .errors) r h))),
           (g .0, grown-put errorWidth f e (l .errors) ws refl (ltb-true (l .errors) r h) (g .1)),
@@ -163,29 +163,29 @@ module _ (u f : List ℕ) where
     step-agrees Space = (refl, g)
     step-agrees (Comment n) = (refl, g)
     step-agrees (Name k n) = token-agrees k n 0 noValue
-    step-agrees (Text n m d) = token-agrees 26 n m (wordsOf (literals.Text (record { start = l .current; length = n }) d))
+    step-agrees (Text n m d) = token-agrees kinds.String n m (stringWords l n d)
     step-agrees (Number x) =
-        either (x .cut) (stop 2) _ (record { next = Stop 2; tokens = t; errors = e }) (emitIn l 27 (x .size) 0 (numberWords l (x .size) (x .whole) (x .places)) t e)
-        (refl, refl, refl) (token-agrees 27 (x .size) 0 (numberWords l (x .size) (x .whole) (x .places)))
+        either (x .cut) (stop outcomes.numberAtEnd) _ (record { next = Stop outcomes.numberAtEnd; tokens = t; errors = e }) (emitIn l kinds.Number (x .size) 0 (numberWords l (x .size) (x .whole) (x .places)) t e)
+        (refl, refl, refl) (token-agrees kinds.Number (x .size) 0 (numberWords l (x .size) (x .whole) (x .places)))
     step-agrees (Mark k n m) = token-agrees k n m noValue
     step-agrees (Wrong message n m) = error-agrees message n m
 
     close-agrees : Agree t e (closeIn l t e .tokens) (closeIn l t e .errors) (closing (room tokenWidth u) (room errorWidth f) (stateOf l t e)) (closeIn l t e .next)
     close-agrees =
-        either (ltb 0 (l .tokens) && not (eqb (l .last) 1)) _ (go (stateOf l t e)) (emitIn l 1 0 0 noValue t e) (onIn l t e) (token-agrees 1 0 0 noValue) (refl, g)
+        either (ltb 0 (l .tokens) && not (eqb (l .last) kinds.Newline)) _ (go (stateOf l t e)) (emitIn l kinds.Newline 0 0 noValue t e) (onIn l t e) (token-agrees kinds.Newline 0 0 noValue) (refl, g)
 
   -- ---- the whole
   eof-says : (l : Lexer) (t e : List ℕ) → Both l t e
-      → Says (andThen (token (room tokenWidth u) (room errorWidth f) 0 0 0 noValue (stateOf l t e)) (stateOf l t e) (kept 0)) (eofIn l t e)
+      → Says (andThen (token (room tokenWidth u) (room errorWidth f) kinds.EOF 0 0 noValue (stateOf l t e)) (stateOf l t e) (kept outcomes.ended)) (eofIn l t e)
   eof-says l t e g =
-      says-then (token (room tokenWidth u) (room errorWidth f) 0 0 0 noValue (stateOf l t e)) (emitNext l 0 0 0 t) l t e (emitTable l 0 0 0 noValue t) e (kept 0)
-      (λ m v h. record { answer = ended 0 m; tokens = v; errors = h }) g (token-agrees l t e g 0 0 0 noValue)
-      (λ m b. says-kept 0 m (emitTable l 0 0 0 noValue t) e b)
+      says-then (token (room tokenWidth u) (room errorWidth f) kinds.EOF 0 0 noValue (stateOf l t e)) (emitNext l kinds.EOF 0 0 t) l t e (emitTable l kinds.EOF 0 0 noValue t) e (kept outcomes.ended)
+      (λ m v h. record { answer = ended outcomes.ended m; tokens = v; errors = h }) g (token-agrees l t e g kinds.EOF 0 0 noValue)
+      (λ m b. says-kept outcomes.ended m (emitTable l kinds.EOF 0 0 noValue t) e b)
 
   finish-says : (l : Lexer) (t e : List ℕ) → Both l t e → Says (finish (room tokenWidth u) (room errorWidth f) (stateOf l t e)) (finishIn l t e)
   finish-says l t e g =
       says-then (closing (room tokenWidth u) (room errorWidth f) (stateOf l t e)) (closeIn l t e .next) l t e (closeIn l t e .tokens) (closeIn l t e .errors)
-      (λ v. andThen (token (room tokenWidth u) (room errorWidth f) 0 0 0 noValue v) v (kept 0)) eofIn g (close-agrees l t e g)
+      (λ v. andThen (token (room tokenWidth u) (room errorWidth f) kinds.EOF 0 0 noValue v) v (kept outcomes.ended)) eofIn g (close-agrees l t e g)
       (λ m b. eof-says m (closeIn l t e .tokens) (closeIn l t e .errors) b)
 
   scan-says : (xs : List Item) (l : Lexer) (t e : List ℕ) → Both l t e → Says (emit (room tokenWidth u) (room errorWidth f) xs (stateOf l t e)) (scanIn xs l t e)
@@ -202,7 +202,7 @@ unfolding lexed
 fresh-tables s u f =
     scan-says u f (items s 0) start u f (record { same = refl; fits = omega arith; rest = refl }, record { same = refl; fits = omega arith; rest = refl })
 
--- ---- the entry: 4 is tested first, then 3
+-- ---- the entry: the length is tested first, then the text
 module _ (s u f u′ f′ : List ℕ) (r : Scanned) where
   refusing : (o : ℕ) → r ≡ record { outcome = o; tokens = 0; errors = 0 } → u′ ≡ u → f′ ≡ f → Lexing (refusal o) r u u′ f f′
   refusing o e g h = record {
@@ -214,20 +214,20 @@ module _ (s u f u′ f′ : List ℕ) (r : Scanned) where
   }
 
   by : (a b : Bool) → ltb 65535 (length s) ≡ a → isText s ≡ b
-      → Lexing (pickResult a (refusal 4) (pickResult (not b) (refusal 3) (lexed s (room tokenWidth u) (room errorWidth f)))) r u u′ f f′
+      → Lexing (pickResult a (refusal outcomes.tooLong) (pickResult (not b) (refusal outcomes.notText) (lexed s (room tokenWidth u) (room errorWidth f)))) r u u′ f f′
       → Lexing (lexedOf s (room tokenWidth u) (room errorWidth f)) r u u′ f f′
   unfolding lexedOf
   by a b g h d =
-      subst⁻¹ (λ (c : Bool). Lexing (pickResult c (refusal 4) (pickResult (not (isText s)) (refusal 3) (lexed s (room tokenWidth u) (room errorWidth f)))) r u u′ f f′) g
-      (subst⁻¹ (λ (c : Bool). Lexing (pickResult a (refusal 4) (pickResult (not c) (refusal 3) (lexed s (room tokenWidth u) (room errorWidth f)))) r u u′ f f′) h d)
+      subst⁻¹ (λ (c : Bool). Lexing (pickResult c (refusal outcomes.tooLong) (pickResult (not (isText s)) (refusal outcomes.notText) (lexed s (room tokenWidth u) (room errorWidth f)))) r u u′ f f′) g
+      (subst⁻¹ (λ (c : Bool). Lexing (pickResult a (refusal outcomes.tooLong) (pickResult (not c) (refusal outcomes.notText) (lexed s (room tokenWidth u) (room errorWidth f)))) r u u′ f f′) h d)
 
-  pub too-long : 65535 < length s → r ≡ record { outcome = 4; tokens = 0; errors = 0 } → u′ ≡ u → f′ ≡ f
+  pub too-long : 65535 < length s → r ≡ record { outcome = outcomes.tooLong; tokens = 0; errors = 0 } → u′ ≡ u → f′ ≡ f
       → Lexing (lexedOf s (room tokenWidth u) (room errorWidth f)) r u u′ f f′
-  too-long l e g h = by true (isText s) (lt-ltb _ _ l) refl (refusing 4 e g h)
+  too-long l e g h = by true (isText s) (lt-ltb _ _ l) refl (refusing outcomes.tooLong e g h)
 
-  pub no-text : length s ≤ 65535 → isText s ≡ false → r ≡ record { outcome = 3; tokens = 0; errors = 0 } → u′ ≡ u → f′ ≡ f
+  pub no-text : length s ≤ 65535 → isText s ≡ false → r ≡ record { outcome = outcomes.notText; tokens = 0; errors = 0 } → u′ ≡ u → f′ ≡ f
       → Lexing (lexedOf s (room tokenWidth u) (room errorWidth f)) r u u′ f f′
-  no-text l n e g h = by false false (le-ltb _ _ l) n (refusing 3 e g h)
+  no-text l n e g h = by false false (le-ltb _ _ l) n (refusing outcomes.notText e g h)
 
   pub lexes : length s ≤ 65535 → isText s ≡ true → Ends (scanIn (items s 0) start u f) r u′ f′
       → Lexing (lexedOf s (room tokenWidth u) (room errorWidth f)) r u u′ f f′

@@ -10,6 +10,7 @@ use Rattle.literal.specs.declared.Span.{Span}
 use Rattle.literal.specs.declared.Words.{Words}
 use Rattle.literal.specs.declared.Literal.the-variants as literals
 use Rattle.literal.specs.Value.{valueOf, wordsOf}
+use Rattle.numbers.specs.declared.Numeral.{Numeral}
 use Rattle.records.specs.declared.TokenData.{TokenData}
 use Rattle.records.specs.declared.InterpreterError.{InterpreterError}
 use Rattle.records.specs.Table.{room, put, tokenWidth, errorWidth}
@@ -98,19 +99,27 @@ errorNext l n m e = pickNext (ltb (l .errors) (room errorWidth e)) (On (errorMor
 abbrev pub errorTable : Lexer → ℕ → ℕ → List ℕ → List ℕ
 errorTable l message m e = put errorWidth e (l .errors) (errorWords (errorOf l message m))
 
--- a number with a point that runs to the last byte stops, any other is a token
+-- the words of a string of n bytes that decodes to d
+abbrev pub stringWords : Lexer → ℕ → ℕ → Words
+stringWords l n d = wordsOf (literals.Text (record { start = l .current; length = n }) d)
+
+-- the words of a number
 abbrev pub numberWords : Lexer → ℕ → ℕ → ℕ → Words
 numberWords l size whole places = wordsOf (valueOf whole places (record { start = l .current; length = size }))
+
+-- a number with a point that runs to the last byte stops, any other is a token
+abbrev pub numberIn : Numeral → Lexer → List ℕ → List ℕ → Did
+numberIn x l t e =
+    pickDid (x .cut) (record { next = Stop outcomes.numberAtEnd; tokens = t; errors = e })
+    (emitIn l kinds.Number (x .size) 0 (numberWords l (x .size) (x .whole) (x .places)) t e)
 
 -- one item
 abbrev pub stepIn : Item → Lexer → List ℕ → List ℕ → Did
 stepIn Space l t e = onIn (advanced l 1) t e
 stepIn (Comment n) l t e = onIn (advanced l n) t e
 stepIn (Name k n) l t e = emitIn l k n 0 noValue t e
-stepIn (Text n m d) l t e = emitIn l kinds.String n m (wordsOf (literals.Text (record { start = l .current; length = n }) d)) t e
-stepIn (Number x) l t e =
-    pickDid (x .cut) (record { next = Stop outcomes.numberAtEnd; tokens = t; errors = e })
-    (emitIn l kinds.Number (x .size) 0 (numberWords l (x .size) (x .whole) (x .places)) t e)
+stepIn (Text n m d) l t e = emitIn l kinds.String n m (stringWords l n d) t e
+stepIn (Number x) l t e = numberIn x l t e
 stepIn (Mark k n m) l t e = emitIn l k n m noValue t e
 stepIn (Wrong message n m) l t e = record { next = errorNext l n m e; tokens = t; errors = errorTable l message m e }
 

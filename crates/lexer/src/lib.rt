@@ -6,8 +6,9 @@ ghost use Rattle.records.specs.Table.{room, tokenWidth, errorWidth};
 ghost use Rattle.lexer.specs.Items.{signOf, nameAt, textItem, pairAt, itemAt, items};
 ghost use Rattle.strings.specs.Strings.{readOf, begun};
 ghost use mathlib.Core.List.{[]};
-ghost use Rattle.lexer.specs.Lex.{lexedOf, Lexing};
-ghost use Rattle.lexer.specs.Steps.{Inside, advanced, emitNext, emitTable, errorNext, errorTable, numberWords, stepIn, closeIn, finishIn, scanIn, eofIn, start, ended, Does, Ends};
+ghost use Rattle.token.specs.Kind.{String};
+ghost use Rattle.lexer.specs.Lex.{noValue, lexedOf, Lexing};
+ghost use Rattle.lexer.specs.Steps.{Inside, advanced, emitNext, emitTable, errorNext, errorTable, stringWords, numberIn, stepIn, closeIn, finishIn, scanIn, eofIn, start, ended, Does, Ends};
 use literal::Literal;
 use literal::Span;
 use literal::Words;
@@ -164,7 +165,7 @@ fn close(tokens: &mut [u32], l: Lexer) -> Next
     let n = l.tokens;
     let last = l.last;
     if (0 < n) & (last != Token::NEWLINE) {
-        return emit(tokens, l, Token::NEWLINE, 0, 0, literal::none());
+        return emit_bare(tokens, l, Token::NEWLINE, 0, 0);
     }
     Next::On(l)
 }
@@ -173,7 +174,7 @@ fn eof(tokens: &mut [u32], l: Lexer) -> Scanned
     requires { ⌜ (l .current ≤ 65535) × (l .line ≤ 65536) ⌝ }
     ensures { λ r. ⌜ Ends (eofIn l (now (tokens .entry)) []) r (now (tokens .exit)) [] ⌝ }
 {
-    match emit(tokens, l, Token::EOF, 0, 0, literal::none()) {
+    match emit_bare(tokens, l, Token::EOF, 0, 0) {
         Next::On(m) => ends(Outcome::ENDED, m),
         Next::Stop(o) => ends(o, l),
     }
@@ -187,43 +188,14 @@ fn scan_token(tokens: &mut [u32], errors: &mut [u32], l: Lexer, x: Item) -> Next
     match x {
         Item::Space => advance(l, 1),
         Item::Comment(n) => advance(l, n),
-        Item::Name { kind, size } => emit(tokens, l, kind, size, 0, literal::none()),
+        Item::Name { kind, size } => emit_bare(tokens, l, kind, size, 0),
         Item::Text {
             size,
             lines,
             length,
-        } => {
-            let span = Span {
-                start: l.current as u32,
-                length: size as u32,
-            };
-            emit(
-                tokens,
-                l,
-                Token::STRING,
-                size,
-                lines,
-                Literal::Text(span, length as u32).pack(),
-            )
-        }
-        Item::Number(n) => {
-            if n.cut {
-                return Next::Stop(Outcome::NUMBER_AT_END);
-            }
-            let span = Span {
-                start: l.current as u32,
-                length: n.size as u32,
-            };
-            emit(
-                tokens,
-                l,
-                Token::NUMBER,
-                n.size,
-                0,
-                Literal::number(n.whole, n.places, span).pack(),
-            )
-        }
-        Item::Mark { kind, size, lines } => emit(tokens, l, kind, size, lines, literal::none()),
+        } => emit_string(tokens, l, size, lines, length),
+        Item::Number(n) => emit_number(tokens, l, n),
+        Item::Mark { kind, size, lines } => emit_bare(tokens, l, kind, size, lines),
         Item::Wrong {
             message,
             size,
@@ -244,6 +216,43 @@ fn advance(l: Lexer, n: usize) -> Next
         errors: l.errors,
         last: l.last,
     })
+}
+
+// A token without a value.
+fn emit_bare(tokens: &mut [u32], l: Lexer, kind: u32, size: usize, lines: usize) -> Next
+    requires { ⌜ (l .current + size ≤ 65535) × (l .line + lines ≤ 65536) ⌝ }
+    ensures { λ r. ⌜ (r ≡ emitNext l kind size lines (now (tokens .entry))) × (now (tokens .exit) ≡ emitTable l kind size lines noValue (now (tokens .entry))) ⌝ }
+{
+    emit(tokens, l, kind, size, lines, literal::none())
+}
+
+// A string, and how many bytes it decodes to.
+fn emit_string(tokens: &mut [u32], l: Lexer, size: usize, lines: usize, length: usize) -> Next
+    requires { ⌜ (l .current + size ≤ 65535) × (l .line + lines ≤ 65536) × (length ≤ 65535) ⌝ }
+    ensures { λ r. ⌜ (r ≡ emitNext l String size lines (now (tokens .entry))) × (now (tokens .exit) ≡ emitTable l String size lines (stringWords l size length) (now (tokens .entry))) ⌝ }
+{
+    let span = Span {
+        start: l.current as u32,
+        length: size as u32,
+    };
+    let w = Literal::Text(span, length as u32).pack();
+    emit(tokens, l, Token::STRING, size, lines, w)
+}
+
+// A number; a stop where it is cut.
+fn emit_number(tokens: &mut [u32], l: Lexer, n: Numeral) -> Next
+    requires { ⌜ (l .current + n .size ≤ 65535) × (l .line ≤ 65536) ⌝ }
+    ensures { λ r. ⌜ Does (numberIn n l (now (tokens .entry)) []) r (now (tokens .exit)) [] ⌝ }
+{
+    if n.cut {
+        return Next::Stop(Outcome::NUMBER_AT_END);
+    }
+    let span = Span {
+        start: l.current as u32,
+        length: n.size as u32,
+    };
+    let w = Literal::number(n.whole, n.places, span).pack();
+    emit(tokens, l, Token::NUMBER, n.size, 0, w)
 }
 
 // Writes a token of that kind, with size bytes and as many lines passed; a stop where it finds no room.

@@ -1,7 +1,7 @@
 -- Strings: rule 5, from the byte after the opening quote, and the decoding of one string.
 use Prim.Native.Nat.{ℕ, _+_, _≤_}
 use mathlib.Core.Path.{_≡_}
-use mathlib.Core.Bool.{Bool, true, false, not, _&&_, cond}
+use mathlib.Core.Bool.{Bool, true, false, not, cond}
 use mathlib.Core.List.{List, [], _∷_, _++_}
 use lib.Dec.{ltb, eqb}
 use lib.ListN.{length, drop}
@@ -95,10 +95,14 @@ pickDecode false a b = b
 abbrev pub fitted : List ℕ → ℕ → Decode
 fitted w room = pickDecode (ltb room (length w)) (refused outcomes.noBufferRoom) (record { outcome = outcomes.ended; bytes = w })
 
--- no string unless the byte at the front is a quote and rule 5, read from there, reaches a closing quote
+-- behind an opening quote: no string unless rule 5, read from there, reaches a closing quote
+abbrev pub decodeFrom : List ℕ → ℕ → Decode
+decodeFrom s room = pickDecode (isClosed (readOf s begun)) (fitted (decodedFrom s false) room) (refused outcomes.notAString)
+
+-- no string unless the byte at the front is a quote
 abbrev pub decodeAt : List ℕ → ℕ → Decode
 decodeAt [] room = refused outcomes.notAString
-decodeAt (b ∷ s) room = pickDecode (eqb b 34 && isClosed (readOf s begun)) (fitted (decodedFrom s false) room) (refused outcomes.notAString)
+decodeAt (b ∷ s) room = pickDecode (eqb b 34) (decodeFrom s room) (refused outcomes.notAString)
 
 -- decoding a string: too long if the source is over 65,535 bytes, then no text if the text test fails, then what stands at start decides
 unfoldable pub decodeOf : List ℕ → ℕ → ℕ → Decode

@@ -4,7 +4,7 @@ ghost use mathlib.Core.List.{_++_};
 ghost use mathlib.Core.Bool.{false};
 ghost use Prim.Native.Nat.{_≤_, _<_, _^_};
 ghost use lib.ListN.{length, drop};
-ghost use Rattle.strings.specs.Strings.{unescaped, Grown, stepOf, readOf, begun, decodedFrom, decodeOf, Decoding};
+ghost use Rattle.strings.specs.Strings.{unescaped, Grown, stepOf, readOf, begun, decodedFrom, decodeFrom, decodeOf, Decoding};
 use records::Outcome;
 
 // What a string comes to. The size counts the bytes passed from the byte after the opening quote, the lines count the newlines among them that are not escaped.
@@ -177,15 +177,21 @@ pub fn decode(source: &[u8], start: usize, buffer: &mut [u8]) -> Decoded
     if source[start] != b'"' {
         return refuse(Outcome::NOT_A_STRING);
     }
-    let from = start + 1;
-    let ended = string(source, from);
+    decode_from(source, start + 1, buffer)
+}
+
+// Decodes the string that stands behind its opening quote.
+fn decode_from(s: &[u8], from: usize, buffer: &mut [u8]) -> Decoded
+    ensures { λ r. ⌜ Decoding (decodeFrom (drop from (now (s .entry))) (length (now (buffer .entry)))) r (now (buffer .entry)) (now (buffer .exit)) ⌝ }
+{
+    let ended = string(s, from);
     let Ended::Closed { length, .. } = ended else {
         return refuse(Outcome::NOT_A_STRING);
     };
     if buffer.len() < length {
         return refuse(Outcome::NO_BUFFER_ROOM);
     }
-    write(source, from, buffer);
+    write(s, from, buffer);
     Decoded {
         outcome: Outcome::ENDED,
         length,

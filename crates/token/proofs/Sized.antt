@@ -33,6 +33,10 @@ no-length w a b c d e f =
     sym (of-length w (length w) refl)
     ∙ simp (ne-eqb _ _ a, ne-eqb _ _ b, ne-eqb _ _ c, ne-eqb _ _ d, ne-eqb _ _ e, ne-eqb _ _ f)
 
+-- ---- one row of the decision: where the test is that of the row's word, and what is left is decided
+pub chosen : (t s : Bool) (r k b b′ : ℕ) → r ≡ cond t k b → t ≡ s → b ≡ b′ → r ≡ cond s k b′
+chosen t s r k b b′ is test rest = is ∙ ap (λ (x : Bool). cond x k b) test ∙ ap (λ (n : ℕ). cond s k n) rest
+
 -- ---- a part that the source does not have whole
 pub part-none : (a e : ℕ) (s : List ℕ) → e ≤ a → keywordOf (part a e s) ≡ 25
 unfolding keywordOf

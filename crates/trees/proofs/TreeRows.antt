@@ -7,14 +7,14 @@ use Prim.Native.Nat.{ℕ, _+_, _-_, _≤_, _<_}
 use native.Mathlib.Omega.{arith}
 use lib.Dec.{eqb}
 use borrow.Author.Tests.{eqb-true}
-use Rattle.records.specs.Table.{put, field, linked}
+use Rattle.records.specs.Table.{put, field, linked, nodeWidth}
 use Rattle.records.specs.declared.Node as rows
 use Rattle.records.proofs.Room.{lt-or-le}
 use Rattle.trees.specs.Trees.{Sort, Expression, isOperation, tightness, tightOf, Binds, Column, Unused, One, Maybe, Many, shapeOf, nextOf, rowAt, Chain, single, more, Child, Members, Fits, Formed, Forest}
 
 -- rows lo up to hi are the same in both tables
 abbrev pub Agree : ℕ → ℕ → List ℕ → List ℕ → Type 0
-Agree lo hi N N′ = (i k : ℕ) → lo ≤ i → i < hi → k < 9 → field 9 k N′ i ≡ field 9 k N i
+Agree lo hi N N′ = (i k : ℕ) → lo ≤ i → i < hi → k < nodeWidth → field nodeWidth k N′ i ≡ field nodeWidth k N i
 
 module _ (N N′ : List ℕ) (s : Sort) where
   pub chain-up : (n last : ℕ) → Chain N s n last → n ≤ last
@@ -32,7 +32,7 @@ module _ (N N′ : List ℕ) (s : Sort) where
       (rw e (chain-keep lo hi (nextOf N n) last a (omega arith) h c))
 
 -- all words of row j but next are the same
-row-same : (N N′ : List ℕ) (j : ℕ) → ((k : ℕ) → k < 8 → field 9 k N′ j ≡ field 9 k N j) → rowAt N′ j ≡ rowAt N j
+row-same : (N N′ : List ℕ) (j : ℕ) → ((k : ℕ) → k < 8 → field nodeWidth k N′ j ≡ field nodeWidth k N j) → rowAt N′ j ≡ rowAt N j
 row-same N N′ j a = rw (a 0 (omega arith), a 1 (omega arith), a 2 (omega arith), a 3 (omega arith), a 4 (omega arith), a 5 (omega arith), a 6 (omega arith), a 7 (omega arith)) refl
 
 -- a Binary or Logical has two children
@@ -117,16 +117,16 @@ later-then a b =
 pub record Made (u : ℕ) (N : List ℕ) (d : rows.Node) (N′ : List ℕ) : Type 0 where
   pub later : Later u N (u + 1) N′
   pub row : rowAt N′ u ≡ d
-  pub next : field 9 8 N′ u ≡ 0
+  pub next : field nodeWidth 8 N′ u ≡ 0
 
 -- n is put as next of prev
 pub record Linked (N : List ℕ) (prev n : ℕ) (N′ : List ℕ) : Type 0 where
-  pub others : (i k : ℕ) → (i + 1 ≡ prev → ⊥) → k < 9 → field 9 k N′ i ≡ field 9 k N i
-  pub words : (i k : ℕ) → k < 8 → field 9 k N′ i ≡ field 9 k N i
-  pub put : 1 ≤ prev → field 9 8 N′ (prev - 1) ≡ n
+  pub others : (i k : ℕ) → (i + 1 ≡ prev → ⊥) → k < nodeWidth → field nodeWidth k N′ i ≡ field nodeWidth k N i
+  pub words : (i k : ℕ) → k < 8 → field nodeWidth k N′ i ≡ field nodeWidth k N i
+  pub put : 1 ≤ prev → field nodeWidth 8 N′ (prev - 1) ≡ n
 
 module _ (T : List ℕ) where
-  pub formed-moved : (N N′ : List ℕ) (d j e : ℕ) → Agree d j N N′ → e ≤ d → ((k : ℕ) → k < 8 → field 9 k N′ j ≡ field 9 k N j) → Formed T N d j (rowAt N j) → Formed T N′ e j (rowAt N′ j)
+  pub formed-moved : (N N′ : List ℕ) (d j e : ℕ) → Agree d j N N′ → e ≤ d → ((k : ℕ) → k < 8 → field nodeWidth k N′ j ≡ field nodeWidth k N j) → Formed T N d j (rowAt N j) → Formed T N′ e j (rowAt N′ j)
   formed-moved N N′ d j e a h s x = rw (row-same N N′ j s) (formed-keep N N′ d j e j a h (omega arith) T (rowAt N j) x)
 
   -- what a reading that starts with u rows adds
@@ -137,7 +137,7 @@ module _ (T : List ℕ) where
       formed j p q (inl o) = formed-moved N N′ b j b (λ i k r t c. l .same i k (omega arith) (omega arith) c) (omega arith) (λ k c. l .same j k (omega arith) o (omega arith)) (x .formed j p o)
       formed j p q (inr o) = formed-moved N′ N′ u j b (λ i k r t c. refl) h (λ k c. refl) (y .formed j o q)
 
-      nexts : (j : ℕ) → b ≤ j → j < u′ → (j < u) ⊎ (u ≤ j) → (field 9 8 N′ j ≡ 0) ⊎ ((j + 1 < field 9 8 N′ j) × (field 9 8 N′ j ≤ u′))
+      nexts : (j : ℕ) → b ≤ j → j < u′ → (j < u) ⊎ (u ≤ j) → (field nodeWidth 8 N′ j ≡ 0) ⊎ ((j + 1 < field nodeWidth 8 N′ j) × (field nodeWidth 8 N′ j ≤ u′))
       nexts j p q (inl o) = let g = l .up in rw (l .same j 8 (omega arith) o (omega arith)) (⊎-elim (λ z. inl z) (λ z. let z1 = z .0 in let z2 = z .1 in inr (omega arith, omega arith)) (x .nexts j p o))
       nexts j p q (inr o) = y .nexts j o q
 
@@ -155,9 +155,9 @@ module _ (T : List ℕ) where
       formed j p q (inl o) = formed-moved N N′ b j b (λ i k r t c. m .later .same i k (omega arith) (omega arith) c) (omega arith) (λ k c. m .later .same j k (omega arith) o (omega arith)) (x .formed j p o)
       formed j p q (inr o) = let e : j ≡ u = omega arith in subst (λ (i : ℕ). Formed T N′ b i (rowAt N′ i)) (sym e) (made-one b u N N′ d f m)
 
-      nexts : (j : ℕ) → b ≤ j → j < u + 1 → (j < u) ⊎ (u ≤ j) → (field 9 8 N′ j ≡ 0) ⊎ ((j + 1 < field 9 8 N′ j) × (field 9 8 N′ j ≤ u + 1))
+      nexts : (j : ℕ) → b ≤ j → j < u + 1 → (j < u) ⊎ (u ≤ j) → (field nodeWidth 8 N′ j ≡ 0) ⊎ ((j + 1 < field nodeWidth 8 N′ j) × (field nodeWidth 8 N′ j ≤ u + 1))
       nexts j p q (inl o) = rw (m .later .same j 8 (omega arith) o (omega arith)) (⊎-elim (λ z. inl z) (λ z. let z1 = z .0 in let z2 = z .1 in inr (omega arith, omega arith)) (x .nexts j p o))
-      nexts j p q (inr o) = let e : j ≡ u = omega arith in inl (ap (λ (i : ℕ). field 9 8 N′ i) e ∙ m .next)
+      nexts j p q (inr o) = let e : j ≡ u = omega arith in inl (ap (λ (i : ℕ). field nodeWidth 8 N′ i) e ∙ m .next)
 
   -- prev may be linked to n: it stands below n, and no row behind it refers to it
   pub record Behind (b u : ℕ) (N : List ℕ) (prev n : ℕ) : Type 0 where
@@ -177,10 +177,10 @@ module _ (T : List ℕ) where
       formed j p q (inl o) = formed-moved N N′ b j b (λ i k r t c. l .others i k (λ w. omega arith) c) (omega arith) (λ k c. l .words j k c) (x .formed j p q)
       formed j p q (inr o) = let a = y .above in formed-moved N N′ prev j b (λ i k r t c. l .others i k (λ w. omega arith) c) (omega arith) (λ k c. l .words j k c) (y .apart .formed j o q)
 
-      kept : (j : ℕ) → b ≤ j → j < u → (j + 1 ≡ prev → ⊥) → (field 9 8 N′ j ≡ 0) ⊎ ((j + 1 < field 9 8 N′ j) × (field 9 8 N′ j ≤ u))
+      kept : (j : ℕ) → b ≤ j → j < u → (j + 1 ≡ prev → ⊥) → (field nodeWidth 8 N′ j ≡ 0) ⊎ ((j + 1 < field nodeWidth 8 N′ j) × (field nodeWidth 8 N′ j ≤ u))
       kept j p q w = rw (l .others j 8 w (omega arith)) (x .nexts j p q)
 
-      nexts : (j : ℕ) → b ≤ j → j < u → (j + 1 < prev) ⊎ (prev ≤ j + 1) → (prev < j + 1) ⊎ (j + 1 ≤ prev) → (field 9 8 N′ j ≡ 0) ⊎ ((j + 1 < field 9 8 N′ j) × (field 9 8 N′ j ≤ u))
+      nexts : (j : ℕ) → b ≤ j → j < u → (j + 1 < prev) ⊎ (prev ≤ j + 1) → (prev < j + 1) ⊎ (j + 1 ≤ prev) → (field nodeWidth 8 N′ j ≡ 0) ⊎ ((j + 1 < field nodeWidth 8 N′ j) × (field nodeWidth 8 N′ j ≤ u))
       nexts j p q (inl o) s = kept j p q (λ w. omega arith)
       nexts j p q (inr o) (inl s) = kept j p q (λ w. omega arith)
       nexts j p q (inr o) (inr s) =
@@ -188,5 +188,5 @@ module _ (T : List ℕ) where
           let e : j ≡ prev - 1 = omega arith in
           let c = y .below in
           let m = y .made in
-          let f : field 9 8 N′ j ≡ n = ap (λ (i : ℕ). field 9 8 N′ i) e ∙ l .put (omega arith) in
+          let f : field nodeWidth 8 N′ j ≡ n = ap (λ (i : ℕ). field nodeWidth 8 N′ i) e ∙ l .put (omega arith) in
           inr (omega arith, omega arith)

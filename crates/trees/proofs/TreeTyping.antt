@@ -9,7 +9,7 @@ use lib.Dec.{eqb}
 use borrow.Author.Tests.{eqb-true, eqb-false}
 use lib.ListN.{length, getD, set, length-set}
 use lib.Seq.{getD-set-same, getD-set-other}
-use Rattle.records.specs.Table.{room, put, field, linked}
+use Rattle.records.specs.Table.{room, put, field, linked, nodeWidth}
 use Rattle.records.specs.Words.{nodeWords}
 use Rattle.records.specs.declared.Node as rows
 use Rattle.records.proofs.Room.{lt-or-le, room-fits, room-length}
@@ -32,30 +32,30 @@ use Rattle.trees.specs.Trees.{Sort, Expression, Statement, Index, tightO
 use Rattle.trees.proofs.TreeRows.{Agree, formed-keep, Later, Made, Linked, Behind, forest-join, forest-none, forest-made, forest-link}
 
 -- ---- what the leaves write
-put-other : (N : List ℕ) (u : ℕ) (d : rows.Node) → Agree 0 u N (put 9 N u (nodeWords d))
-put-other N u d i k l h c = field-other 9 k N u (nodeWords d) refl c i (λ e. omega arith)
+put-other : (N : List ℕ) (u : ℕ) (d : rows.Node) → Agree 0 u N (put nodeWidth N u (nodeWords d))
+put-other N u d i k l h c = field-other nodeWidth k N u (nodeWords d) refl c i (λ e. omega arith)
 
-put-made : (N : List ℕ) (u : ℕ) (d : rows.Node) → d .next ≡ 0 → u < room 9 N → Made u N d (put 9 N u (nodeWords d))
+put-made : (N : List ℕ) (u : ℕ) (d : rows.Node) → d .next ≡ 0 → u < room nodeWidth N → Made u N d (put nodeWidth N u (nodeWords d))
 put-made N u d e h = record {
   later = record { up = omega arith; same = put-other N u d };
   row = rw (f 0 (omega arith), f 1 (omega arith), f 2 (omega arith), f 3 (omega arith), f 4 (omega arith), f 5 (omega arith), f 6 (omega arith), f 7 (omega arith)) (λ i. record { kind = d .kind; token1 = d .token1; token2 = d .token2; token3 = d .token3; child1 = d .child1; child2 = d .child2; child3 = d .child3; child4 = d .child4; next = sym e i });
   next = f 8 (omega arith) ∙ e;
 }
   where
-    f : (k : ℕ) → k < 9 → field 9 k (put 9 N u (nodeWords d)) u ≡ getD (nodeWords d) k 0
-    f k c = field-put 9 k N u (nodeWords d) refl c h
+    f : (k : ℕ) → k < nodeWidth → field nodeWidth k (put nodeWidth N u (nodeWords d)) u ≡ getD (nodeWords d) k 0
+    f k c = field-put nodeWidth k N u (nodeWords d) refl c h
 
-link-linked : (N : List ℕ) (u prev n : ℕ) → u ≤ room 9 N → prev ≤ u → Linked N prev n (linked N prev n)
+link-linked : (N : List ℕ) (u prev n : ℕ) → u ≤ room nodeWidth N → prev ≤ u → Linked N prev n (linked N prev n)
 link-linked N u prev n r h = go (lt-or-le 0 prev)
   where
     go : (0 < prev) ⊎ (prev ≤ 0) → Linked N prev n (linked N prev n)
     go (inl p) = rw (linked-room N prev n p (omega arith)) (record {
-      others = λ i k w c. field-same 9 k (set N (9 * (prev - 1) + 8) n) N i (length-set N (9 * (prev - 1) + 8) n) (getD-set-other N (9 * (prev - 1) + 8) (9 * i + k) n 0 (λ e. w (omega arith)));
-      words = λ i k c. field-same 9 k (set N (9 * (prev - 1) + 8) n) N i (length-set N (9 * (prev - 1) + 8) n) (getD-set-other N (9 * (prev - 1) + 8) (9 * i + k) n 0 (λ e. omega arith));
+      others = λ i k w c. field-same nodeWidth k (set N (nodeWidth * (prev - 1) + 8) n) N i (length-set N (nodeWidth * (prev - 1) + 8) n) (getD-set-other N (nodeWidth * (prev - 1) + 8) (nodeWidth * i + k) n 0 (λ e. w (omega arith)));
+      words = λ i k c. field-same nodeWidth k (set N (nodeWidth * (prev - 1) + 8) n) N i (length-set N (nodeWidth * (prev - 1) + 8) n) (getD-set-other N (nodeWidth * (prev - 1) + 8) (nodeWidth * i + k) n 0 (λ e. omega arith));
       put = λ q.
-          let f = room-fits 9 N (prev - 1) (omega arith) in
-          let e = room-length 9 (set N (9 * (prev - 1) + 8) n) N (length-set N (9 * (prev - 1) + 8) n) in
-          field-room 9 8 (set N (9 * (prev - 1) + 8) n) (prev - 1) (omega arith) ∙ getD-set-same N (9 * (prev - 1) + 8) n 0 (omega arith);
+          let f = room-fits nodeWidth N (prev - 1) (omega arith) in
+          let e = room-length nodeWidth (set N (nodeWidth * (prev - 1) + 8) n) N (length-set N (nodeWidth * (prev - 1) + 8) n) in
+          field-room nodeWidth 8 (set N (nodeWidth * (prev - 1) + 8) n) (prev - 1) (omega arith) ∙ getD-set-same N (nodeWidth * (prev - 1) + 8) n 0 (omega arith);
     })
     go (inr p) = let z : prev ≡ 0 = omega arith in rw (linked-none N prev n (inl z)) (record { others = λ i k w c. refl; words = λ i k c. refl; put = λ q. absurd (omega arith) })
 
@@ -212,7 +212,7 @@ module _ (T : List ℕ) where
   -- ---- and that suffices
   pub record Stands (b u c : ℕ) (N : List ℕ) : Type 0 where
     pub low : b ≤ u
-    pub fits : u ≤ room 9 N
+    pub fits : u ≤ room nodeWidth N
     pub cursor : c ≤ count T
     pub forest : Forest T b u N
 
@@ -266,11 +266,11 @@ module _ (T : List ℕ) where
       (λ h.
       let m = put-made N (p .nodes) d (w .1) h in
       let l = st .low in
-      let long : length (put 9 N (p .nodes) (nodeWords d)) ≡ length N = put-length 9 N (p .nodes) (nodeWords d) refl in
-      let same = room-length 9 (put 9 N (p .nodes) (nodeWords d)) N long in
-      let kept : Kept b N (put 9 N (p .nodes) (nodeWords d)) = record { same = λ i k y z c. m .later .same i k y (omega arith) c; long = long } in
-      let st′ : Stands b (p .nodes + 1) (p .current) (put 9 N (p .nodes) (nodeWords d)) = record { low = omega arith; fits = omega arith; cursor = st .cursor; forest = forest-made T b (p .nodes) N (put 9 N (p .nodes) (nodeWords d)) d l (st .forest) (w .0) m } in
-      record { done = (kept, st′, w .2 (put 9 N (p .nodes) (nodeWords d)) m) })
+      let long : length (put nodeWidth N (p .nodes) (nodeWords d)) ≡ length N = put-length nodeWidth N (p .nodes) (nodeWords d) refl in
+      let same = room-length nodeWidth (put nodeWidth N (p .nodes) (nodeWords d)) N long in
+      let kept : Kept b N (put nodeWidth N (p .nodes) (nodeWords d)) = record { same = λ i k y z c. m .later .same i k y (omega arith) c; long = long } in
+      let st′ : Stands b (p .nodes + 1) (p .current) (put nodeWidth N (p .nodes) (nodeWords d)) = record { low = omega arith; fits = omega arith; cursor = st .cursor; forest = forest-made T b (p .nodes) N (put nodeWidth N (p .nodes) (nodeWords d)) d l (st .forest) (w .0) m } in
+      record { done = (kept, st′, w .2 (put nodeWidth N (p .nodes) (nodeWords d)) m) })
       (record { done = kept-all b N })
 
   done-error : (b : ℕ) (R : Found → ℕ → List ℕ → Type 0) (message i : ℕ) (p : State) (E N : List ℕ) → Stands b (p .nodes) (p .current) N → R (plain 0) (p .nodes) N → Done b R N (pushError T message i p E N)
@@ -278,7 +278,7 @@ module _ (T : List ℕ) where
 
   -- a reader one level down
   abbrev pub Reads : Sort → ℕ → Reader → Type 0
-  Reads s l r = (p : State) (E N : List ℕ) → p .nodes ≤ room 9 N → p .current ≤ count T → Done (p .nodes) (Held T s l (p .nodes)) N (r p E N)
+  Reads s l r = (p : State) (E N : List ℕ) → p .nodes ≤ room nodeWidth N → p .current ≤ count T → Done (p .nodes) (Held T s l (p .nodes)) N (r p E N)
 
   pub done-down : (b : ℕ) (s : Sort) (l : ℕ) (R : Found → ℕ → List ℕ → Type 0) (u c : ℕ) (N : List ℕ) (o : Reply) → Stands b u c N → Done u (Held T s l u) N o → ((f : Found) (v : ℕ) (M : List ℕ) → Later u N v M → Forest T u v M → Held T s l u f v M → R f v M) → Done b R N o
   done-down b s l R u c N (reply q (Node f) E M) st x w =
@@ -295,7 +295,7 @@ module _ (T : List ℕ) where
   done-link b R prev n p E N st w =
       let l = link-linked N (p .nodes) prev n (st .fits) (below (w .0)) in
       let long : length (linked N prev n) ≡ length N = linked-length N prev n in
-      let same = room-length 9 (linked N prev n) N long in
+      let same = room-length nodeWidth (linked N prev n) N long in
       let f = st .fits in
       let kept : Kept b N (linked N prev n) = record { same = link-kept b (p .nodes) prev n N (linked N prev n) (w .0) l; long = long } in
       let st′ : Stands b (p .nodes) (p .current) (linked N prev n) = record { low = st .low; fits = omega arith; cursor = st .cursor; forest = forest-link T b (p .nodes) prev n N (linked N prev n) (st .forest) (w .0) l } in

@@ -9,7 +9,7 @@ use lib.Dec.{eqb}
 use lib.ListN.{getD}
 use lib.Seq.{getD-take}
 use Rattle.token.specs.Kind.{Newline}
-use Rattle.records.specs.Table.{field, linked, zeroed}
+use Rattle.records.specs.Table.{field, linked, zeroed, nodeWidth}
 use Rattle.records.proofs.Field.{field-same}
 use Rattle.records.proofs.Rest.{zeroed-length, zeroed-take}
 use Rattle.parser.specs.declared.State.{State}
@@ -47,16 +47,16 @@ top-reads T p E N f c = done-then T (p .nodes) (Held T Statement 0 (p .nodes)) (
 abbrev pub Whole : List ℕ → Parsed → Type 0
 Whole T r = Tree T (r .nodeCount) (r .first) (r .nodes)
 
-zeroed-same : (n : ℕ) (N : List ℕ) → Agree 0 n N (zeroed 9 N n)
+zeroed-same : (n : ℕ) (N : List ℕ) → Agree 0 n N (zeroed nodeWidth N n)
 zeroed-same n N i k l h c =
-    let e : 9 * i + k < 9 * n = omega arith in
-    field-same 9 k (zeroed 9 N n) N i (zeroed-length 9 N n) (sym (getD-take (9 * n) (zeroed 9 N n) (9 * i + k) 0 e) ∙ ap (λ (l : List ℕ). getD l (9 * i + k) 0) (zeroed-take 9 N n) ∙ getD-take (9 * n) N (9 * i + k) 0 e)
+    let e : nodeWidth * i + k < nodeWidth * n = omega arith in
+    field-same nodeWidth k (zeroed nodeWidth N n) N i (zeroed-length nodeWidth N n) (sym (getD-take (nodeWidth * n) (zeroed nodeWidth N n) (nodeWidth * i + k) 0 e) ∙ ap (λ (l : List ℕ). getD l (nodeWidth * i + k) 0) (zeroed-take nodeWidth N n) ∙ getD-take (nodeWidth * n) N (nodeWidth * i + k) 0 e)
 
 -- the rows of N are kept, in a table M that has them too
-ends-tree : (T : List ℕ) (first last n : ℕ) (N M : List ℕ) → Forest T 0 n N → Listing T Statement 0 first last n N → Agree 0 n N M → Tree T n first (zeroed 9 M n)
+ends-tree : (T : List ℕ) (first last n : ℕ) (N M : List ℕ) → Forest T 0 n N → Listing T Statement 0 first last n N → Agree 0 n N M → Tree T n first (zeroed nodeWidth M n)
 ends-tree T first last n N M x s a =
-    let l : Later n N n (zeroed 9 M n) = record { up = omega arith; same = λ i k p q c. zeroed-same n M i k p q c ∙ a i k p q c } in
-    record { rows = forest-join T 0 n n N (zeroed 9 M n) (omega arith) x l (forest-none T n (zeroed 9 M n)); statements = fits-later l 0 (Many Statement) first (list-done T Statement 0 first last n N s) }
+    let l : Later n N n (zeroed nodeWidth M n) = record { up = omega arith; same = λ i k p q c. zeroed-same n M i k p q c ∙ a i k p q c } in
+    record { rows = forest-join T 0 n n N (zeroed nodeWidth M n) (omega arith) x l (forest-none T n (zeroed nodeWidth M n)); statements = fits-later l 0 (Many Statement) first (list-done T Statement 0 first last n N s) }
 
 end-tree : (T : List ℕ) (b : Bool) (x y : Unit {0} → Parsed) → Whole T (x tt) → Whole T (y tt) → Whole T (ifEnd b x y)
 end-tree T true x y a b = a
@@ -111,5 +111,5 @@ column-fits T N d j r x (suc (suc (suc (suc zero)))) = x .child4
 column-fits T N d j r x (suc (suc (suc (suc (suc k))))) = refl
 
 -- each child of a kept row, and each later member of its list, stands below its parent and is of a kind that the column allows
-pub tree-allows : (T : List ℕ) (n first : ℕ) (N : List ℕ) → Tree T n first N → (j k m : ℕ) → j < n → 1 ≤ childOf (rowAt N j) k → Reaches N (childOf (rowAt N j) k) m → (m ≤ j) × (allows (field 9 0 N j) k (kindOf N m) ≡ true)
-tree-allows T n first N t j k m h p r = fits-reaches N 0 j (columnOf (shapeOf (field 9 0 N j)) k) (childOf (rowAt N j) k) m p r (column-fits T N 0 j (rowAt N j) (t .rows .formed j (omega arith) h) k)
+pub tree-allows : (T : List ℕ) (n first : ℕ) (N : List ℕ) → Tree T n first N → (j k m : ℕ) → j < n → 1 ≤ childOf (rowAt N j) k → Reaches N (childOf (rowAt N j) k) m → (m ≤ j) × (allows (field nodeWidth 0 N j) k (kindOf N m) ≡ true)
+tree-allows T n first N t j k m h p r = fits-reaches N 0 j (columnOf (shapeOf (field nodeWidth 0 N j)) k) (childOf (rowAt N j) k) m p r (column-fits T N 0 j (rowAt N j) (t .rows .formed j (omega arith) h) k)

@@ -2,7 +2,7 @@
 
 use super::premise::{is_keyword, pieces, Clause, Kind, Piece};
 use crate::dice::Dice;
-use crate::scripts::{damaged, name, script, string, KEYWORDS};
+use crate::lex_scripts::{damaged, name, script, string, KEYWORDS};
 
 /// Letters of one to four bytes for strings and comments. No digit is among them: a text of a #
 /// and digits is how the tables of the original's trees mark a token.

@@ -15,8 +15,9 @@ use std::fmt::{self, Write as _};
 use crate::dice::Dice;
 use crate::host::{Answer, Host, ReadCall, Request};
 use change::{any_first, broken, changed, exchanged};
+use expected::lexing::is_text;
+use expected::records::{ERROR_WORDS, NODE_WORDS, TOKEN_WORDS};
 use premise::{permitted, Clause, CLAUSES};
-use readings::lexing::is_text;
 use tables::Tables;
 
 /// So many pairs are given to the library at a time.
@@ -177,8 +178,9 @@ impl Report {
                 room(8),
             );
             let nodes = room(2 * pair[0].len() + 2);
-            let token_words = 7 * tokens + dice.below(7);
-            let (error_words, node_words) = (3 * errors + dice.below(3), 9 * nodes + dice.below(9));
+            let token_words = TOKEN_WORDS * tokens + dice.below(TOKEN_WORDS);
+            let error_words = ERROR_WORDS * errors + dice.below(ERROR_WORDS);
+            let node_words = NODE_WORDS * nodes + dice.below(NODE_WORDS);
             for bytes in pair {
                 let (behind, fill) = (dice.word() as u8, dice.word() as u32);
                 requests.push(Request::Source { bytes, behind });

@@ -8,9 +8,9 @@ use super::change::{any_first, broken, changed, exchanged};
 use super::premise::{permitted, Clause, CLAUSES};
 use super::tables::Tables;
 use crate::dice::Dice;
-use readings::lexing::is_text;
+use expected::lexing::is_text;
 use vectors::definition::{HEAD, UNFOLDING};
-use vectors::sheet::path;
+use vectors::folders::{path, BLACKOUT};
 
 /// What the premise says of a pair.
 #[derive(Debug, Clone, Copy, PartialEq, Eq)]
@@ -235,16 +235,17 @@ pub struct File {
 impl File {
     pub fn write(&self) -> io::Result<()> {
         let file = format!("proofs/{}.antt", self.name);
-        fs::write(path("blackout", &file), &self.text)
+        fs::write(path(BLACKOUT, &file), &self.text)
     }
 }
 
 /// The pairs with what the original says of them, and random ones with the premise alone.
 pub fn files() -> [File; 2] {
-    oracle::on_large_stack(|| [readings(), random(RANDOM.0, RANDOM.1)])
+    oracle::on_large_stack(|| [stored(), random(RANDOM.0, RANDOM.1)])
 }
 
-fn readings() -> File {
+/// The pairs above.
+fn stored() -> File {
     // What has to be computed is named as in the crate `scripts`, but for that crate's own files; the
     // reading is named below.
     let others = ["use Rattle·scripts·", "use Rattle.reader."];

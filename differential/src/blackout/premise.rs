@@ -4,8 +4,8 @@
 //! is cut into pieces, and each is held against the same bytes of the second. Any one clause can be
 //! dropped, to show that it is needed.
 
-use crate::scripts::KEYWORDS;
-use readings::lexing::{is_text, LONGEST};
+use crate::lex_scripts::KEYWORDS;
+use expected::lexing::{is_text, LONGEST};
 
 /// The demand's clauses, in its order.
 #[derive(Debug, Clone, Copy, PartialEq, Eq, PartialOrd, Ord)]

@@ -1,6 +1,7 @@
 //! A reading as words: the answer and the kept records of each table.
 
-use readings::lexing::{expect, Expected};
+use expected::lexing::{expect, Expected};
+use expected::records::{outcome, ERROR_WORDS, TOKEN_WORDS};
 
 use crate::host::ReadAnswer;
 
@@ -24,9 +25,9 @@ impl Tables {
         let tokens = lexing.tokens.concat();
         let Some(script) = std::str::from_utf8(source)
             .ok()
-            .filter(|_| lexing.outcome < 3)
+            .filter(|_| !matches!(lexing.outcome, outcome::NO_TEXT | outcome::TOO_LONG))
         else {
-            // Outcomes 3 and 4 keep nothing.
+            // What is refused keeps nothing.
             let answer = vec![lexing.outcome, 0, 0, 0, 0];
             return Some(Tables::kept(answer, tokens, vec![], vec![]));
         };
@@ -47,8 +48,8 @@ impl Tables {
             }
             Ok(kept.to_vec())
         };
-        let tokens = kept(&reading.token_table, 7 * reading.tokens as usize)?;
-        let errors = kept(&reading.error_table, 3 * reading.errors as usize)?;
+        let tokens = kept(&reading.token_table, TOKEN_WORDS * reading.tokens as usize)?;
+        let errors = kept(&reading.error_table, ERROR_WORDS * reading.errors as usize)?;
         let answer = vec![
             reading.outcome,
             reading.tokens,

@@ -13,6 +13,8 @@ use std::process::{self, ChildStdin, ChildStdout, Command, Stdio};
 use std::sync::OnceLock;
 use std::thread;
 
+use expected::records::{outcome, ERROR_WORDS, NODE_WORDS, TOKEN_WORDS};
+
 use super::{Answer, DecodeAnswer, LexAnswer, ReadAnswer, Request};
 
 /// A running child.
@@ -177,6 +179,7 @@ fn build() -> Vec<OsString> {
     let source = here.join("host.c");
     let words = if env::consts::ARCH == "x86_64" {
         run(Command::new("cc")
+            .args(numbers())
             .args(["-O2", "-o"])
             .args([&fresh, &source])
             .args(&archives));
@@ -187,6 +190,16 @@ fn build() -> Vec<OsString> {
     };
     fs::rename(&fresh, &program).unwrap_or_else(|error| panic!("no {program:?}: {error}"));
     words
+}
+
+/// What `host.c` has to know: the numbers have their definition in Rust.
+fn numbers() -> [String; 4] {
+    [
+        format!("-DTOKEN_WORDS={TOKEN_WORDS}"),
+        format!("-DERROR_WORDS={ERROR_WORDS}"),
+        format!("-DNODE_WORDS={NODE_WORDS}"),
+        format!("-DMORE={}", outcome::MORE),
+    ]
 }
 
 /// The real path of `rt`.
@@ -225,6 +238,7 @@ impl Toolchain {
     fn build(&self, source: &Path, archives: &[PathBuf], program: &Path) {
         let object = program.with_extension(format!("{}.o", process::id()));
         run(Command::new(self.bin("clang"))
+            .args(numbers())
             .args(["--target=x86_64-unknown-linux-gnu", "-O2", "-c", "-o"])
             .args([&object, source]));
         run(Command::new(self.bin("ld.lld"))

@@ -1,5 +1,6 @@
 //! Makes the calls in this process, through the crate `kettleplume`.
 
+use expected::records::outcome;
 use kettleplume::border::{self, Parser};
 
 use super::{Answer, DecodeAnswer, DecodeCall, LexAnswer, LexCall, ReadAnswer, ReadCall, Request};
@@ -8,9 +9,6 @@ use super::{Answer, DecodeAnswer, DecodeCall, LexAnswer, LexCall, ReadAnswer, Re
 const GUARD: usize = 8;
 const GUARD_WORD: u32 = 0x5aa5_c33c;
 const GUARD_BYTE: u8 = 0x5a;
-
-/// The answer of a read that leaves a token before EOF.
-const MORE: u32 = 19;
 
 /// The source that the next calls are about, with what stands behind it.
 #[derive(Default)]
@@ -141,7 +139,7 @@ fn one_at_a_time(
     let [tokens, errors, nodes] = tables.each_mut().map(Guarded::lent);
     let mut answer = parser.begin(source, tokens, errors, nodes);
     let mut so_far = vec![];
-    while answer.outcome == MORE && so_far.len() < source.len() + 3 {
+    while answer.outcome == outcome::MORE && so_far.len() < source.len() + 3 {
         so_far.push([answer.tokens, answer.errors, answer.nodes, answer.first]);
         answer = parser.next(source, tokens, errors, nodes);
     }

@@ -18,6 +18,7 @@ use std::ffi::OsString;
 use std::io;
 use std::process::ExitCode;
 
+use kettleplume::records::outcome;
 use kettleplume::{Records, Tables};
 
 use arguments::{Asked, Task, HELP, USAGE, VERSION};
@@ -101,7 +102,7 @@ fn text(asked: &Asked, name: &str, source: &[u8], records: &Records) -> String {
 
 fn verdict(records: &Records) -> Status {
     match (records.answer.outcome, records.errors.len()) {
-        (0, 0) => Status::Clean,
+        (outcome::DONE, 0) => Status::Clean,
         _ => Status::Mistakes,
     }
 }

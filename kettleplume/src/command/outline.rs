@@ -3,9 +3,10 @@
 
 use std::fmt::Write as _;
 
+use kettleplume::records::token;
 use kettleplume::Records;
 
-/// The answer, then the first four words of each token, each error and each node.
+/// The answer, then the first words of each token, each error and each node.
 pub fn outline(records: &Records) -> String {
     let answer = records.answer;
     let mut out = String::new();
@@ -23,7 +24,7 @@ pub fn outline(records: &Records) -> String {
     records
         .tokens
         .iter()
-        .for_each(|t| line(&mut out, 't', &t[..4]));
+        .for_each(|t| line(&mut out, 't', &t[..token::SHOWN]));
     records.errors.iter().for_each(|e| line(&mut out, 'e', e));
     records.nodes.iter().for_each(|n| line(&mut out, 'n', n));
     out

@@ -3,16 +3,12 @@
 use std::fmt::Write as _;
 use std::ops::RangeInclusive;
 
-use kettleplume::{message, Error, Records};
+use kettleplume::records::{self, message};
+use kettleplume::{Error, Records};
 
 use super::excerpt;
 use super::letters;
-use super::script::{broken_escape, Script, UNCLOSED};
-
-/// The message for a character that the language has no use for.
-const ILLEGAL: u32 = 2;
-/// The place of a node record's reference to the next in its list.
-const NEXT: usize = 8;
+use super::script::{broken_escape, Script};
 
 /// The report of one script, under the name of its file.
 pub fn report(name: &str, source: &[u8], records: &Records) -> String {
@@ -34,16 +30,16 @@ enum Place {
 }
 
 /// The lexer's errors have their place. The parser's have pos 0 and the line of a token.
-fn place([message, line, pos]: [u32; 3]) -> Place {
-    match message {
-        ..=UNCLOSED => Place::At(pos as usize),
-        _ => Place::InLine(line),
+fn place([number, line, pos]: records::Error) -> Place {
+    match message::LEXERS.contains(&number) {
+        true => Place::At(pos as usize),
+        false => Place::InLine(line),
     }
 }
 
-fn recorded(name: &str, script: &Script, error: [u32; 3]) -> String {
-    let number = error[0];
-    let text = message(number).unwrap_or("a message without a text");
+fn recorded(name: &str, script: &Script, error: records::Error) -> String {
+    let number = error[records::error::MESSAGE];
+    let text = kettleplume::message(number).unwrap_or("a message without a text");
     match place(error) {
         Place::At(at) => {
             let (line, column) = (script.line(at), script.column(at));
@@ -61,18 +57,21 @@ fn recorded(name: &str, script: &Script, error: [u32; 3]) -> String {
 }
 
 /// Whether the token whose line was recorded may be a new line, which carries the number of the line
-/// behind it. It isn't one where a new line was missed (4), at break and continue (19) and at `=` (23).
-fn may_stand_before(message: u32) -> bool {
-    !matches!(message, 4 | 19 | 23)
+/// behind it. It isn't one where a new line was missed, at break and continue and at `=`.
+fn may_stand_before(number: u32) -> bool {
+    !matches!(
+        number,
+        message::NEW_LINE | message::OUTSIDE_LOOP | message::ASSIGNED
+    )
 }
 
 /// What the line and the mark don't tell.
-fn remarks(script: &Script, [message, counted, pos]: [u32; 3]) -> String {
+fn remarks(script: &Script, [number, counted, pos]: records::Error) -> String {
     let at = pos as usize;
     let line = script.line(at);
-    match message {
-        UNCLOSED => excerpt::note(&unclosed(script, counted, at)),
-        ILLEGAL => character(script.source(), at) + &miscount(line..=line, counted),
+    match number {
+        message::UNCLOSED => excerpt::note(&unclosed(script, counted, at)),
+        message::ILLEGAL => character(script.source(), at) + &miscount(line..=line, counted),
         _ => miscount(line..=line, counted),
     }
 }
@@ -165,7 +164,7 @@ fn first_refused(source: &[u8]) -> String {
 /// How many top-level statements are kept: a list that is linked by reference.
 fn statements(records: &Records) -> usize {
     let node = |reference: u32| records.nodes.get((reference as usize).checked_sub(1)?);
-    let next = |node: &&[u32; 9]| records.nodes.get((node[NEXT] as usize).checked_sub(1)?);
+    let next = |record: &&records::Node| node(record[records::node::NEXT]);
     std::iter::successors(node(records.answer.first), next).count()
 }
 
@@ -234,11 +233,12 @@ mod tests {
     #[test]
     fn marks_are_under_their_letters() {
         let (mut tables, mut marks) = (Tables::new(), 0);
+        let lexers = |error: &&records::Error| matches!(place(**error), Place::At(_));
         for source in hard_scripts() {
             let records = tables.read(&source);
             let script = Script::new(&source, records.errors);
-            for error in records.errors.iter().filter(|e| e[0] <= UNCLOSED) {
-                let at = letters::start(&source, error[2] as usize);
+            for error in records.errors.iter().filter(lexers) {
+                let at = letters::start(&source, error[records::error::POS] as usize);
                 let letter = letters::first(&source[at..]).expect("a letter");
                 let excerpt = excerpt::marked(&script, at);
                 let (line, mark) = excerpt.split_once('\n').expect("two lines");

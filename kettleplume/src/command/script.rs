@@ -6,10 +6,9 @@
 
 use std::ops::RangeInclusive;
 
-use super::letters;
+use kettleplume::records::{self, message};
 
-/// The number of the message for a string that isn't closed properly.
-pub const UNCLOSED: u32 = 3;
+use super::letters;
 
 pub struct Script<'a> {
     source: &'a [u8],
@@ -23,10 +22,10 @@ pub struct Script<'a> {
 
 impl<'a> Script<'a> {
     /// A script with the error records of its reading: with them goes where the count fell behind.
-    pub fn new(source: &'a [u8], errors: &[[u32; 3]]) -> Script<'a> {
+    pub fn new(source: &'a [u8], errors: &[records::Error]) -> Script<'a> {
         let uncounted: Vec<usize> = errors
             .iter()
-            .filter(|[message, ..]| *message == UNCLOSED)
+            .filter(|[number, ..]| *number == message::UNCLOSED)
             .filter_map(|[_, _, pos]| broken_escape(source, *pos as usize))
             .map(|backslash| backslash + 1)
             .collect();
@@ -120,8 +119,10 @@ mod tests {
     use super::*;
     use kettleplume::Tables;
 
-    const NEWLINE: u32 = 1;
-    const STRING: u32 = 26;
+    use kettleplume::token::Token;
+
+    const NEWLINE: u32 = Token::Newline as u32;
+    const STRING: u32 = Token::String as u32;
 
     fn places(source: &[u8]) -> Vec<(usize, usize)> {
         let script = Script::new(source, &[]);
@@ -159,7 +160,7 @@ mod tests {
 
     /// Where a token's record says its line, by document 01: a new line's behind it, a string's at its
     /// closing quote.
-    fn line_place([kind, start, length, ..]: [u32; 7]) -> usize {
+    fn line_place([kind, start, length, ..]: records::Token) -> usize {
         match kind {
             NEWLINE | STRING => (start + length.max(1)) as usize - usize::from(kind == STRING),
             _ => start as usize,
@@ -176,11 +177,15 @@ mod tests {
             assert!(counted.contains(&script.line(at)), "{source:?} {at} {line}");
         };
         for token in records.tokens {
-            stands(line_place(*token).min(source.len()), token[3]);
+            stands(
+                line_place(*token).min(source.len()),
+                token[records::token::LINE],
+            );
         }
-        for [message, line, pos] in records.errors.iter().copied().filter(|e| e[0] <= UNCLOSED) {
-            match message {
-                UNCLOSED => stands(
+        let lexers = |[number, ..]: &records::Error| message::LEXERS.contains(number);
+        for [number, line, pos] in records.errors.iter().copied().filter(lexers) {
+            match number {
+                message::UNCLOSED => stands(
                     broken_escape(source, pos as usize).unwrap_or(source.len()),
                     line,
                 ),

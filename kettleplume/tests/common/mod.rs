@@ -3,12 +3,12 @@
 use std::fs;
 use std::path::Path;
 
-use readings::dice::Dice;
-use readings::grammar::Maker;
-use readings::scripts::{
+use expected::dice::Dice;
+use expected::maker::Maker;
+use expected::scripts::{
     around, many, LEFT_OF_EQUAL, MESSAGES, MORE_WAYS, NEWLINES, STARS, UNSTARRED, WAYS, WORKED,
 };
-use readings::spellings::{BETWEEN, NUMBERS, STRINGS};
+use expected::spellings::{BETWEEN, NUMBERS, STRINGS};
 
 /// How many scripts are made at random.
 const MADE: usize = 6_000;

@@ -10,12 +10,16 @@ mod scripts;
 use std::fmt::Write as _;
 use std::{fs, io};
 
+use expected::dice::Dice;
+use expected::maker::Maker;
+use expected::records::{outcome, NODE_WORDS};
+use expected::whole::{known, Known, Whole};
 use oracle::on_large_stack;
-use readings::dice::Dice;
-use readings::grammar::Maker;
-use readings::whole::{known, Known, Whole};
 
-use crate::sheet::path;
+use crate::folders::{path, SCRIPTS};
+
+/// What stands in each table before a reading.
+const FILL: u32 = 7;
 
 /// A script; a character is a byte.
 pub struct Script {
@@ -51,8 +55,9 @@ pub fn case(script: &Script) -> Case {
     let text = text.clone();
     let Known::Read(whole) = known(&bytes) else {
         let end = ends.expect("no text, so the original can't read it");
-        // The node table is unchanged, also where it is not 0.
-        let words = vec![vec![end.outcome, 0, 0, 0, 0], vec![7; 9 * end.rooms[2] + 8]];
+        // The node table, with its longest spare tail, is unchanged, also where it is not 0.
+        let nodes = vec![FILL; NODE_WORDS * (end.rooms[2] + 1) - 1];
+        let words = vec![vec![end.outcome, 0, 0, 0, 0], nodes];
         let rooms = end.rooms;
         return Case { text, rooms, words };
     };
@@ -83,7 +88,7 @@ fn rooms(whole: &Whole) -> [usize; 3] {
     let [tokens, errors, nodes] = whole.needs();
     // A statement that stops has made nodes that the original doesn't tell.
     match whole.within([tokens, errors, nodes]).outcome {
-        1 => [tokens, errors, 2 * tokens],
+        outcome::STOPPED => [tokens, errors, 2 * tokens],
         _ => [tokens, errors, nodes],
     }
 }
@@ -155,7 +160,7 @@ impl File {
 
     pub fn write(&self) -> io::Result<()> {
         let file = format!("proofs/{}.antt", self.name);
-        fs::write(path("scripts", &file), self.text())
+        fs::write(path(SCRIPTS, &file), self.text())
     }
 }
 

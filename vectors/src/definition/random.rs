@@ -1,9 +1,10 @@
 //! Random scripts for theorems, some of them with tables that are too small.
 
 use super::{End, Script};
+use expected::maker::Maker;
+use expected::records::outcome;
+use expected::whole::Whole;
 use oracle::{read, Stop};
-use readings::grammar::Maker;
-use readings::whole::Whole;
 
 /// The next script.
 pub fn script(maker: &mut Maker) -> Script {
@@ -41,7 +42,7 @@ fn few_nodes(maker: &mut Maker) -> Option<Script> {
     Some(Script {
         text,
         ends: Some(End {
-            outcome: 7,
+            outcome: outcome::NODE_ROOM,
             rooms: [tokens + maker.roll(3), maker.roll(2), room],
             kept: [tokens, 0, kept],
         }),
@@ -76,7 +77,7 @@ fn few_errors(maker: &mut Maker) -> Option<Script> {
     Some(Script {
         text,
         ends: Some(End {
-            outcome: 6,
+            outcome: outcome::ERROR_ROOM,
             rooms: [tokens, room, 3 * tokens],
             kept: [tokens, room, kept],
         }),

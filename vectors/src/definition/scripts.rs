@@ -1,9 +1,10 @@
 //! The scripts of each file.
 
-use oracle::{on_large_stack, read};
-use readings::scripts::{
+use expected::records::outcome;
+use expected::scripts::{
     around, many, LEFT_OF_EQUAL, MESSAGES, MORE_WAYS, NEWLINES, SMALL, STARS, WAYS, WORKED,
 };
+use oracle::{on_large_stack, read};
 
 use super::{End, File, Script};
 
@@ -34,12 +35,17 @@ fn ending(scripts: &[(&str, u32, [usize; 3], [usize; 3])]) -> Vec<Script> {
         .collect()
 }
 
-/// Levels: for each way to open them the most that are read, and one more, which gives outcome 8.
+/// Levels: for each way to open them the most that are read, and one more, which is one too many.
 fn levels(ways: &[(&str, usize, &str, &str)]) -> Vec<Script> {
     let script = |&(open, count, inner, close): &(&str, usize, &str, &str)| {
         let text = around(open, count + 1, inner, close);
         let tokens = on_large_stack(|| read(&text).tokens.len());
-        let deeper = ending(&[(&text, 8, [tokens, 0, tokens], [tokens, 0, 0])]);
+        let deeper = ending(&[(
+            &text,
+            outcome::TOO_DEEP,
+            [tokens, 0, tokens],
+            [tokens, 0, 0],
+        )]);
         let read = plain(&[&around(open, count, inner, close)]);
         read.into_iter().chain(deeper)
     };

@@ -6,9 +6,10 @@
 
 use crate::leaves::FAR;
 use crate::sheet::{hex, Sheet};
+use expected::dice::Dice;
+use expected::records::sort;
 use oracle::token::Literal;
 use oracle::Stop;
-use readings::dice::Dice;
 
 /// The largest m and k whose value is given.
 const MOST_DIGITS: u64 = 1 << 53;
@@ -18,10 +19,10 @@ const MOST_PLACES: usize = 22;
 /// is known.
 fn words(m: u64, k: usize, text: &str) -> String {
     if m > MOST_DIGITS || k > MOST_PLACES {
-        return "3 0 0".to_string();
+        return format!("{} 0 0", sort::LONG);
     }
     let bits = text.parse::<f64>().expect("a decimal").to_bits();
-    format!("2 {} {}", bits & 0xffff_ffff, bits >> 32)
+    format!("{} {} {}", sort::NUMBER, bits & 0xffff_ffff, bits >> 32)
 }
 
 /// The digits m with the point before the last k of them.

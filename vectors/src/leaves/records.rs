@@ -5,20 +5,18 @@
 //! The judge is a plain rendering of document 01's section on records.
 
 use crate::sheet::{list, Sheet};
-
-const TOKEN: usize = 7;
-const ERROR: usize = 3;
-const NODE: usize = 9;
-
-/// Where the next of a node stands.
-const NEXT: usize = 8;
+use expected::records::node::NEXT;
+use expected::records::token::SHOWN;
+use expected::records::{ERROR_WORDS, NODE_WORDS, TOKEN_WORDS};
 
 /// The most words that a table of the test program has.
 const MOST_WORDS: usize = 64;
 
-/// A table before a vector changes it.
+/// What stands in a table before a vector changes it.
+const FILL: u32 = 7;
+
 fn table(words: usize) -> Vec<u32> {
-    vec![7; words]
+    vec![FILL; words]
 }
 
 /// The words of record n, if the table has it: a spare tail is never a record.
@@ -39,7 +37,10 @@ fn add_push(sheet: &mut Sheet, letter: char, width: usize, words: usize, n: u32)
 fn add_link(sheet: &mut Sheet, words: usize, r: u32, m: u32) {
     let mut table = table(words);
     // A reference is index + 1, and 0 is nothing.
-    if let Some(node) = r.checked_sub(1).and_then(|n| record(&mut table, NODE, n)) {
+    if let Some(node) = r
+        .checked_sub(1)
+        .and_then(|n| record(&mut table, NODE_WORDS, n))
+    {
         node[NEXT] = m;
     }
     sheet.add('l', &[&words, &r, &m], &[&list(&table)]);
@@ -47,7 +48,7 @@ fn add_link(sheet: &mut Sheet, words: usize, r: u32, m: u32) {
 
 fn add_zero(sheet: &mut Sheet, words: usize, n: u32) {
     let mut table = table(words);
-    for word in table.iter_mut().skip(NODE * n as usize) {
+    for word in table.iter_mut().skip(NODE_WORDS * n as usize) {
         *word = 0;
     }
     sheet.add('z', &[&words, &n], &[&list(&table)]);
@@ -56,8 +57,8 @@ fn add_zero(sheet: &mut Sheet, words: usize, n: u32) {
 fn add_read(sheet: &mut Sheet, words: usize, i: u32) {
     let mut table: Vec<u32> = (0..words as u32).collect();
     // Past the end a token reads as zeros, EOF's kind.
-    let token = record(&mut table, TOKEN, i).map_or(vec![0; 4], |t| t[..4].to_vec());
-    let (tokens, errors, nodes) = (words / TOKEN, words / ERROR, words / NODE);
+    let token = record(&mut table, TOKEN_WORDS, i).map_or(vec![0; SHOWN], |t| t[..SHOWN].to_vec());
+    let (tokens, errors, nodes) = (words / TOKEN_WORDS, words / ERROR_WORDS, words / NODE_WORDS);
     sheet.add(
         'r',
         &[&words, &i],
@@ -85,15 +86,15 @@ fn numbers(width: usize, words: usize) -> Vec<u32> {
 }
 
 pub fn add(sheet: &mut Sheet) {
-    for (letter, width) in [('t', TOKEN), ('o', NODE), ('p', ERROR)] {
+    for (letter, width) in [('t', TOKEN_WORDS), ('o', NODE_WORDS), ('p', ERROR_WORDS)] {
         for words in sizes(width) {
             for n in numbers(width, words) {
                 add_push(sheet, letter, width, words, n);
             }
         }
     }
-    for words in sizes(NODE) {
-        for n in numbers(NODE, words) {
+    for words in sizes(NODE_WORDS) {
+        for n in numbers(NODE_WORDS, words) {
             add_link(sheet, words, n, 5);
             add_zero(sheet, words, n);
         }
@@ -101,8 +102,8 @@ pub fn add(sheet: &mut Sheet) {
     for (r, m) in [(1, 0), (1, u32::MAX), (2, 1), (8, 1), (0, u32::MAX)] {
         add_link(sheet, MOST_WORDS, r, m);
     }
-    for words in sizes(TOKEN) {
-        for i in numbers(TOKEN, words) {
+    for words in sizes(TOKEN_WORDS) {
+        for i in numbers(TOKEN_WORDS, words) {
             add_read(sheet, words, i);
         }
     }

@@ -4,7 +4,7 @@
 
 use crate::leaves::FAR;
 use crate::sheet::{hex, Sheet};
-use readings::dice::Dice;
+use expected::dice::Dice;
 
 fn is_alpha(b: u8) -> bool {
     b.is_ascii_alphabetic() || b == b'_'

@@ -8,12 +8,10 @@
 use crate::leaves::text::is_text;
 use crate::leaves::FAR;
 use crate::sheet::{hex, Sheet};
+use expected::dice::Dice;
+use expected::records::{message, outcome, LONGEST};
 use oracle::token::{Literal, Token, TokenData};
 use oracle::{message_number, Reading, Stop};
-use readings::dice::Dice;
-
-/// The longest source that is read.
-pub(crate) const MOST_BYTES: usize = 65_535;
 
 /// What fills a buffer before a decoding.
 const FILLER: u8 = 0xaa;
@@ -86,7 +84,7 @@ fn compare(bytes: &[u8], from: usize, reach: &Reach) {
         None => {
             let error = &reading.errors[0];
             let place = (message_number(&error.message), error.line, error.pos);
-            assert_eq!(place, (Some(3), line, 0));
+            assert_eq!(place, (Some(message::UNCLOSED), line, 0));
             compare_rest(&reading, script, 1 + reach.size);
         }
     }
@@ -117,19 +115,19 @@ fn add_string(sheet: &mut Sheet, bytes: &[u8], from: usize) {
 
 /// The outcome of a decoding, and the decoded bytes.
 fn decode(source: &[u8], start: usize, room: usize) -> (u32, Vec<u8>) {
-    if source.len() > MOST_BYTES {
-        return (4, vec![]);
+    if source.len() > LONGEST {
+        return (outcome::TOO_LONG, vec![]);
     }
     if !is_text(source) {
-        return (3, vec![]);
+        return (outcome::NO_TEXT, vec![]);
     }
     if source.get(start) != Some(&b'"') {
-        return (9, vec![]);
+        return (outcome::NO_STRING, vec![]);
     }
     match string(source, start + 1).decoded {
-        None => (9, vec![]),
-        Some(decoded) if decoded.len() > room => (10, vec![]),
-        Some(decoded) => (0, decoded),
+        None => (outcome::NO_STRING, vec![]),
+        Some(decoded) if decoded.len() > room => (outcome::BUFFER_ROOM, vec![]),
+        Some(decoded) => (outcome::DONE, decoded),
     }
 }
 
@@ -290,7 +288,7 @@ fn add_large(sheet: &mut Sheet) {
     source[62] = b'\\';
     add_string(sheet, &source, 1);
     for more in [0, 1] {
-        let mut source = vec![b'a'; MOST_BYTES + more];
+        let mut source = vec![b'a'; LONGEST + more];
         source[0] = b'"';
         let (outcome, decoded) = decode(&source, 0, 4);
         sheet.add('u', &[&more], &[&outcome, &decoded.len()]);

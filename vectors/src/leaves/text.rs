@@ -3,7 +3,7 @@
 //! The judge is a table of document 01's four lines. What Rust takes as a `str` passes it.
 
 use crate::sheet::{hex, Sheet};
-use readings::dice::Dice;
+use expected::dice::Dice;
 use std::ops::RangeInclusive;
 
 /// The first bytes that the test knows, with how many bytes 80..BF follow each.

@@ -2,22 +2,21 @@
 //! given size keep of them.
 
 use crate::leaves::numbers::numeral;
-use crate::leaves::strings::{string, MOST_BYTES};
+use crate::leaves::strings::string;
 use crate::leaves::text::{following, is_text};
 use crate::sheet::hex;
+use expected::records::message::{LEXERS, UNCLOSED};
+use expected::records::token::SHOWN;
+use expected::records::{outcome, sort, ERROR_WORDS, LONGEST, TOKEN_WORDS};
 use oracle::state::InterpreterError;
 use oracle::token::{Literal, TokenData};
 use oracle::{message_number, Stop};
 use std::ops::Range;
 
-/// The words of a token record and of an error record.
-pub const TOKEN_WIDTH: usize = 7;
-pub const ERROR_WIDTH: usize = 3;
-
 /// What lexing does, one thing after the other; a record is the fields of the answer.
 enum Event {
-    /// With the first four words of its record.
-    Token(String, [u32; 4]),
+    /// With the words of its record that an outline has.
+    Token(String, [u32; SHOWN]),
     Error(String),
     /// A number with a point runs to the last byte.
     Cut,
@@ -25,7 +24,7 @@ enum Event {
 
 /// The whole answer, with tables of so many words.
 pub fn answer(source: &[u8], token_words: usize, error_words: usize) -> String {
-    let kept = keep(source, token_words / TOKEN_WIDTH, error_words / ERROR_WIDTH);
+    let kept = keep(source, token_words / TOKEN_WORDS, error_words / ERROR_WORDS);
     let counts = format!(
         "{} {} {}",
         kept.outcome,
@@ -54,23 +53,27 @@ struct Kept {
 /// order decides, and what came before is kept.
 fn keep(source: &[u8], token_room: usize, error_room: usize) -> Kept {
     let mut kept = Kept::default();
-    if source.len() > MOST_BYTES {
-        kept.outcome = 4;
+    if source.len() > LONGEST {
+        kept.outcome = outcome::TOO_LONG;
         return kept;
     }
     if !is_text(source) {
-        kept.outcome = 3;
+        kept.outcome = outcome::NO_TEXT;
         return kept;
     }
     for event in events(source) {
         match event {
-            Event::Cut => kept.outcome = 2,
-            Event::Token(..) if kept.tokens.len() == token_room => kept.outcome = 5,
-            Event::Error(_) if kept.errors.len() == error_room => kept.outcome = 6,
+            Event::Cut => kept.outcome = outcome::POINT_AT_END,
+            Event::Token(..) if kept.tokens.len() == token_room => {
+                kept.outcome = outcome::TOKEN_ROOM
+            }
+            Event::Error(_) if kept.errors.len() == error_room => {
+                kept.outcome = outcome::ERROR_ROOM
+            }
             Event::Token(record, _) => kept.tokens.push(record),
             Event::Error(record) => kept.errors.push(record),
         }
-        if kept.outcome != 0 {
+        if kept.outcome != outcome::DONE {
             break;
         }
     }
@@ -84,7 +87,11 @@ fn events(source: &[u8]) -> Vec<Event> {
     let script = stand_in(source);
     let reading = oracle::read(&script);
     let mut tokens = reading.tokens.iter();
-    let mut errors = reading.errors.iter().filter(|e| message(e) <= 3).peekable();
+    let mut errors = reading
+        .errors
+        .iter()
+        .filter(|e| LEXERS.contains(&message(e)))
+        .peekable();
     let mut events = vec![];
     let mut at = 0;
     while at < source.len() {
@@ -92,7 +99,7 @@ fn events(source: &[u8]) -> Vec<Event> {
             let message = message(error);
             events.push(Event::Error(format!("e {message} {} {at}", error.line)));
             at += match message {
-                3 => 1 + string(source, at + 1).size,
+                UNCLOSED => 1 + string(source, at + 1).size,
                 _ => 1,
             };
         } else if b" \t\r".contains(&source[at]) {
@@ -129,7 +136,7 @@ fn event(token: &TokenData, source: &[u8], place: Range<usize>) -> Event {
 }
 
 /// Kind, start, length and line of each token of a text.
-pub fn token_words(source: &[u8]) -> Vec<[u32; 4]> {
+pub fn token_words(source: &[u8]) -> Vec<[u32; SHOWN]> {
     let words = |event| match event {
         Event::Token(_, words) => Some(words),
         _ => None,
@@ -163,12 +170,12 @@ fn stand_in(source: &[u8]) -> String {
 /// The fields of a token that stands for these bytes.
 fn record(token: &TokenData, bytes: &[u8]) -> String {
     let value = match &token.literal {
-        None => "0 0".to_string(),
-        Some(Literal::String(text)) => format!("1 {}", hex(&restored(text, bytes))),
-        Some(Literal::Number(_)) if numeral(bytes).is_long() => "3 0".to_string(),
+        None => format!("{} 0", sort::NONE),
+        Some(Literal::String(text)) => format!("{} {}", sort::TEXT, hex(&restored(text, bytes))),
+        Some(Literal::Number(_)) if numeral(bytes).is_long() => format!("{} 0", sort::LONG),
         Some(Literal::Number(value)) => {
             let bits = value.to_bits();
-            format!("2 {} {}", bits & 0xffff_ffff, bits >> 32)
+            format!("{} {} {}", sort::NUMBER, bits & 0xffff_ffff, bits >> 32)
         }
         Some(other) => panic!("lexing gives no {other:?}"),
     };

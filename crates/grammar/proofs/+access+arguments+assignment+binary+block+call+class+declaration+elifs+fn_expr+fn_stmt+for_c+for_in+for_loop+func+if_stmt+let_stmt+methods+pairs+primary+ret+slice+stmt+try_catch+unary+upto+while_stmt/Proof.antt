@@ -1,4 +1,4 @@
--- The cycle of calls: each member's proof is a module below.
+-- Made by tools/remake cycle grammar from tools/ans/grammar/cycle.txt: the cycle of calls. Each member's proof is a module below.
 mod Measures
 mod Access
 mod Arguments

@@ -10,7 +10,7 @@ use Rattle.records.proofs.zero_rest.Statement.{statement}
 use Rattle.records.proofs.zero_rest.Tie as tie
 
 abbrev Inv-loop : tie.InvT-loop
-Inv-loop nodes₀ n i₀ nodes i = (9 * n ≤ i) × (length nodes ≡ length nodes₀) × (take i nodes ≡ take i (zeroed nodeWidth nodes₀ n))
+Inv-loop nodes₀ n i₀ nodes i = (nodeWidth * n ≤ i) × (length nodes ≡ length nodes₀) × (take i nodes ≡ take i (zeroed nodeWidth nodes₀ n))
 
 abbrev μ-loop : tie.MeasureT-loop
 μ-loop nodes₀ n i₀ nodes i = length nodes - i

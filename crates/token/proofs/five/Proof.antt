@@ -1,3 +1,6 @@
+-- `token::five` meets its contract: row by row, as the table of its length has them. Assumes nothing.
+use mathlib.Core.Path.{refl}
+use Rattle.token.proofs.Sized.{chosen}
 use borrow.Author.Needs.{needs}
 use Rattle.token.proofs.five.Statement.{statement}
 use Rattle.token.proofs.five.Tie as tie
@@ -57,7 +60,13 @@ pick-requires-6 : tie.Need-pick-requires-6
 pick-requires-6 c κs = search needs
 
 returns : tie.Need-returns
-returns c = cc
+returns c =
+    chosen _ _ _ _ _ _ (c .pick6 .ensures) (c .before .before .before .before .before .before .before .before .before .before .before .before .before .before .before .before .equal .ensures)
+    (chosen _ _ _ _ _ _ (c .before .pick5 .ensures) (c .before .before .before .before .before .before .before .before .before .before .before .before .before .before .equal2 .ensures)
+    (chosen _ _ _ _ _ _ (c .before .before .pick4 .ensures) (c .before .before .before .before .before .before .before .before .before .before .before .before .equal3 .ensures)
+    (chosen _ _ _ _ _ _ (c .before .before .before .pick3 .ensures) (c .before .before .before .before .before .before .before .before .before .before .equal4 .ensures)
+    (chosen _ _ _ _ _ _ (c .before .before .before .before .pick2 .ensures) (c .before .before .before .before .before .before .before .before .equal5 .ensures)
+    (chosen _ _ _ _ _ _ (c .before .before .before .before .before .pick .ensures) (c .before .before .before .before .before .before .equal6 .ensures) refl)))))
 
 pub five-spec : {M : Type 1} → statement M
 five-spec =

@@ -1,3 +1,6 @@
+-- `token::four` meets its contract: row by row, as the table of its length has them. Assumes nothing.
+use mathlib.Core.Path.{refl}
+use Rattle.token.proofs.Sized.{chosen}
 use borrow.Author.Needs.{needs}
 use Rattle.token.proofs.four.Statement.{statement}
 use Rattle.token.proofs.four.Tie as tie
@@ -39,7 +42,11 @@ pick-requires-4 : tie.Need-pick-requires-4
 pick-requires-4 c κs = search needs
 
 returns : tie.Need-returns
-returns c = cc
+returns c =
+    chosen _ _ _ _ _ _ (c .pick4 .ensures) (c .before .before .before .before .before .before .before .before .before .before .equal .ensures)
+    (chosen _ _ _ _ _ _ (c .before .pick3 .ensures) (c .before .before .before .before .before .before .before .before .equal2 .ensures)
+    (chosen _ _ _ _ _ _ (c .before .before .pick2 .ensures) (c .before .before .before .before .before .before .equal3 .ensures)
+    (chosen _ _ _ _ _ _ (c .before .before .before .pick .ensures) (c .before .before .before .before .equal4 .ensures) refl)))
 
 pub four-spec : {M : Type 1} → statement M
 four-spec =

@@ -1,4 +1,4 @@
--- `access`, of the cycle.
+-- Made by tools/remake cycle grammar from tools/ans/grammar/access.txt: `access`, of the cycle.
 use Prim.Native.Nat.{ℕ}
 use Rattle.parser.specs.Programs.{run}
 use Rattle.parser.specs.Grammar.{lower, access}

@@ -1,4 +1,4 @@
--- `arguments`, of the cycle.
+-- Made by tools/remake cycle grammar from tools/ans/grammar/arguments.txt: `arguments`, of the cycle.
 use mathlib.Core.Path.{_≡_, refl, sym, ap, _∙_}
 use mathlib.Core.Bool.{true, false}
 use mathlib.Core.List.{List, []}

@@ -1,4 +1,4 @@
--- `assignment`, of the cycle.
+-- Made by tools/remake cycle grammar from tools/ans/grammar/assignment.txt: `assignment`, of the cycle.
 use Prim.Native.Nat.{ℕ, _-_}
 use Rattle.parser.specs.Programs.{run, Assignment}
 use Rattle.parser.specs.Grammar.{lower, body, assignment}

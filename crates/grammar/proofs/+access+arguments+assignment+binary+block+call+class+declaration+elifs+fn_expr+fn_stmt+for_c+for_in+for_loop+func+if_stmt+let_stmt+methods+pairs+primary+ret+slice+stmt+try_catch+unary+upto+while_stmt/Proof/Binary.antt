@@ -1,4 +1,4 @@
--- `binary`, of the cycle.
+-- Made by tools/remake cycle grammar from tools/ans/grammar/binary.txt: `binary`, of the cycle.
 use mathlib.Core.Path.{_≡_, refl, sym, ap, _∙_}
 use mathlib.Core.List.{List, []}
 use Prim.Native.Nat.{ℕ, suc, _+_, _-_, _≤_, _<_}
@@ -7,22 +7,20 @@ use lib.ListN.{length, drop}
 use Rattle.parser.specs.declared.State.{State}
 use Rattle.parser.specs.declared.Found.{Found}
 use Rattle.parser.specs.declared.Out.{Out}
-use Rattle.parser.specs.Tokens.{count, after}
+use Rattle.parser.specs.Tokens.{count}
 use Rattle.parser.specs.Tables.{Reply, reply}
 use Rattle.parser.specs.Programs.{run}
 use Rattle.parser.specs.Grammar.{lower, levels}
 use Rattle.pieces.specs.Pieces.{binaryAt}
-use Rattle.pieces.proofs.NextKind.{next-is}
+use Rattle.pieces.proofs.NextKind.{peeked}
 use Rattle.pieces.proofs.Turns.{not-back, make-on}
 use Rattle.grammar.proofs.Operators.{onward, operator-past, turns-all, turns-found, turns-over}
 use Rattle.grammar.proofs.binary.Reads as binary
 use Rattle.grammar.proofs.+access+arguments+assignment+binary+block+call+class+declaration+elifs+fn_expr+fn_stmt+for_c+for_in+for_loop+func+if_stmt+let_stmt+methods+pairs+primary+ret+slice+stmt+try_catch+unary+upto+while_stmt.Lts-binary as binary-lts
 use Rattle.grammar.proofs.unary.Reads as unary
 use Rattle.parser.proofs.State.at_token.Reads as at-token-reads
-use Rattle.parser.proofs.kind_at.Reads as kind-at-reads
 use Rattle.parser.proofs.make.Reads as make-reads
-use Rattle.parser.proofs.next.Reads as next-reads
-use Rattle.parser.proofs.skip.Reads as skip-reads
+use Rattle.parser.proofs.peek.Reads as peek-reads
 use Rattle.pieces.proofs.found.Reads as found-reads
 use Rattle.pieces.proofs.operation.Reads as operation-reads
 use Rattle.pieces.proofs.rank_of.Reads as rank-of-reads
@@ -30,11 +28,7 @@ use Rattle.grammar.proofs.+access+arguments+assignment+binary+block+cal
 use borrow.Author.Needs.{needs}
 
 abbrev claims : ℕ → binary-lts.Claims
-claims t = (unary-below t, unary.Post, skip-reads.Asked, skip-reads.Learnt, kind-at-reads.Asked, kind-at-reads.Learnt, rank-of-reads.Asked, rank-of-reads.Learnt, found-reads.Asked, found-reads.Learnt, next-reads.Asked, next-reads.Learnt, at-token-reads.Asked, at-token-reads.Learnt, binary-below t, binary.Post, operation-reads.Asked, operation-reads.Learnt, make-reads.Asked, make-reads.Learnt)
-
--- a value is itself
-same : (n : ℕ) → n ≡ n
-same n = refl
+claims t = (unary-below t, unary.Post, peek-reads.Asked, peek-reads.Learnt, rank-of-reads.Asked, rank-of-reads.Learnt, found-reads.Asked, found-reads.Learnt, at-token-reads.Asked, at-token-reads.Learnt, binary-below t, binary.Post, operation-reads.Asked, operation-reads.Learnt, make-reads.Asked, make-reads.Learnt)
 
 -- the turns that are left, with r the tightest level that is open
 abbrev onFrom : List ℕ → ℕ → ℕ → ℕ → ℕ → Found → State → List ℕ → List ℕ → Reply
@@ -59,19 +53,19 @@ binary-μ-loop tokens errors₀ nodes₀ levels looser left₀ s₀ r₀ errors 
 head : (t : ℕ) (c : binary-lts.At-loop (claims t) (binary-at t) binary.Post binary-Inv-loop binary-μ-loop) → run (c .before .before .before .before .before .before .before .before .before .before .before .before .before .before .before .args .tokens .now) (lower (c .before .before .before .before .before .before .before .before .before .before .before .before .before .before .before .args .tokens .now) (c .before .before .before .before .before .before .before .before .before .before .before .before .before .before .before .args .levels)) (binaryAt (c .before .before .before .before .before .before .before .before .before .before .before .before .before .before .before .args .tokens .now) (c .before .before .before .before .before .before .before .before .before .before .before .before .before .before .before .args .looser)) (c .before .before .before .before .before .before .before .before .before .before .before .before .before .before .before .args .p) (c .before .before .before .before .before .before .before .before .before .before .before .before .before .before .before .args .errors .now) (c .before .before .before .before .before .before .before .before .before .before .before .before .before .before .before .args .nodes .now) ≡ onFrom (c .before .before .before .before .before .before .before .before .before .before .before .before .before .before .before .args .tokens .now) (c .before .before .before .before .before .before .before .before .before .before .before .before .before .before .before .args .levels) (c .before .before .before .before .before .before .before .before .before .before .before .before .before .before .before .args .looser) (suc (c .loop .inv .fuel)) (c .loop .r) (c .loop .left) (c .loop .s) (c .loop .errors) (c .loop .nodes)
 head t c = rw (turns-all (c .before .before .before .before .before .before .before .before .before .before .before .before .before .before .before .args .tokens .now) (lower (c .before .before .before .before .before .before .before .before .before .before .before .before .before .before .before .args .tokens .now) (c .before .before .before .before .before .before .before .before .before .before .before .before .before .before .before .args .levels)) (c .before .before .before .before .before .before .before .before .before .before .before .before .before .before .before .args .looser) (c .before .before .before .before .before .before .before .before .before .before .before .before .before .before .before .args .p) (c .before .before .before .before .before .before .before .before .before .before .before .before .before .before .before .args .errors .now) (c .before .before .before .before .before .before .before .before .before .before .before .before .before .before .before .args .nodes .now), ← c .before .before .before .before .before .before .before .before .before .unary .ensures, c .before .before .before .k .given .1) (sym (c .loop .inv .same))
 
-turn : (t : ℕ) (c : binary-lts.After-s2 (claims t) (binary-at t) binary.Post binary-Inv-loop binary-μ-loop) → (c .before .before .before .before .before .before .before .before .before .before .before .before .before .before .before .before .before .before .before .before .before .before .before .before .before .before .before .loop .s .current < c .before .before .before .before .before .before .make .result .p .current) × (c .before .before .before .before .before .before .before .before .before .before .before .before .before .before .before .before .before .before .before .before .before .before .before .before .before .before .before .loop .s .current < count (c .before .before .before .before .before .before .before .before .before .before .before .before .before .before .before .before .before .before .before .before .before .before .before .before .before .before .before .before .before .before .before .before .before .before .before .before .before .before .before .before .before .before .args .tokens .now))
+turn : (t : ℕ) (c : binary-lts.After-s2 (claims t) (binary-at t) binary.Post binary-Inv-loop binary-μ-loop) → (c .before .before .before .before .before .before .before .before .before .before .before .before .before .before .before .before .before .before .before .before .before .before .before .before .before .loop .s .current < c .before .before .before .before .before .before .make .result .p .current) × (c .before .before .before .before .before .before .before .before .before .before .before .before .before .before .before .before .before .before .before .before .before .before .before .before .before .loop .s .current < count (c .before .before .before .before .before .before .before .before .before .before .before .before .before .before .before .before .before .before .before .before .before .before .before .before .before .before .before .before .before .before .before .before .before .before .before .before .before .before .before .before .args .tokens .now))
 turn t c =
-    let n = next-is (c .before .before .before .before .before .before .before .before .before .before .before .before .before .before .before .before .before .before .before .before .before .before .before .before .before .before .before .before .before .before .before .before .before .before .before .before .before .before .before .before .before .before .args .tokens .now) (c .before .before .before .before .before .before .before .before .before .before .before .before .before .before .before .before .before .before .before .before .before .before .before .before .before .before .before .loop .s .current) _ _ _ (c .before .before .before .before .before .before .before .before .before .before .before .before .before .before .before .before .before .before .before .before .before .before .before .before .before .before .skip .ensures) (c .before .before .before .before .before .before .before .before .before .before .before .before .before .before .before .before .before .before .before .before .before .before .before .before .before .kind-at .ensures) (c .before .before .before .before .before .before .before .before .before .before .before .before .before .before .before .before .before .before .before .before .before .next .ensures) in
-    let g = operator-past _ _ _ _ (c .before .before .before .before .before .before .before .before .before .before .before .before .before .before .before .before .before .before .before .before .before .before .before .before .rank-of .result) n (omega (arith, c .before .before .before .before .before .before .before .before .before .before .before .before .before .before .before .before .before .before .before .before .before .before .before .if1 .left)) (omega (arith, c .before .before .before .before .before .before .before .before .before .before .before .before .before .before .before .before .before .before .before .before .before .before .if2 .left, c .before .before .before .before .before .before .before .before .before .before .before .before .before .before .before .before .before .before .before .before .before .before .before .before .before .before .before .loop .inv .within)) (sym (c .before .before .before .before .before .before .before .before .before .before .before .before .before .before .before .before .before .before .before .before .before .before .before .before .rank-of .ensures)) in
+    let n = peeked (c .before .before .before .before .before .before .before .before .before .before .before .before .before .before .before .before .before .before .before .before .before .before .before .before .before .before .before .before .before .before .before .before .before .before .before .before .before .before .before .before .args .tokens .now) (c .before .before .before .before .before .before .before .before .before .before .before .before .before .before .before .before .before .before .before .before .before .before .before .before .before .loop .s .current) _ (c .before .before .before .before .before .before .before .before .before .before .before .before .before .before .before .before .before .before .before .before .before .before .before .before .peek .ensures) in
+    let g = operator-past _ _ _ _ (c .before .before .before .before .before .before .before .before .before .before .before .before .before .before .before .before .before .before .before .before .before .before .before .rank-of .result) n (omega (arith, c .before .before .before .before .before .before .before .before .before .before .before .before .before .before .before .before .before .before .before .before .before .before .if1 .left)) (omega (arith, c .before .before .before .before .before .before .before .before .before .before .before .before .before .before .before .before .before .before .before .before .before .if2 .left, c .before .before .before .before .before .before .before .before .before .before .before .before .before .before .before .before .before .before .before .before .before .before .before .before .before .loop .inv .within)) (sym (c .before .before .before .before .before .before .before .before .before .before .before .before .before .before .before .before .before .before .before .before .before .before .before .rank-of .ensures)) in
     let a = ap (λ (x : State). x .current) (c .before .before .before .before .before .before .before .before .before .before .before .before .before .before .before .before .before .before .at-token .ensures) in
-    let b = not-back (c .before .before .before .before .before .before .before .before .before .before .before .before .before .before .before .before .before .before .before .before .before .before .before .before .before .before .before .before .before .before .before .before .before .before .before .before .before .before .before .before .before .before .args .tokens .now) (c .before .before .before .before .before .before .before .before .before .before .before .before .before .before .before .before .before .before .before .before .before .before .before .before .before .before .before .before .before .before .before .before .before .before .before .before .before .before .before .before .before .before .args .levels) (binaryAt (c .before .before .before .before .before .before .before .before .before .before .before .before .before .before .before .before .before .before .before .before .before .before .before .before .before .before .before .before .before .before .before .before .before .before .before .before .before .before .before .before .before .before .args .tokens .now) (c .before .before .before .before .before .before .before .before .before .before .before .before .before .before .before .before .before .before .before .before .before .before .before .before .rank-of .result)) _ _ _ _ _ _ _ (c .before .before .before .before .before .before .before .before .before .before .before .before .before .before .before .before .before .binary .ensures) in
+    let b = not-back (c .before .before .before .before .before .before .before .before .before .before .before .before .before .before .before .before .before .before .before .before .before .before .before .before .before .before .before .before .before .before .before .before .before .before .before .before .before .before .before .before .args .tokens .now) (c .before .before .before .before .before .before .before .before .before .before .before .before .before .before .before .before .before .before .before .before .before .before .before .before .before .before .before .before .before .before .before .before .before .before .before .before .before .before .before .before .args .levels) (binaryAt (c .before .before .before .before .before .before .before .before .before .before .before .before .before .before .before .before .before .before .before .before .before .before .before .before .before .before .before .before .before .before .before .before .before .before .before .before .before .before .before .before .args .tokens .now) (c .before .before .before .before .before .before .before .before .before .before .before .before .before .before .before .before .before .before .before .before .before .before .before .rank-of .result)) _ _ _ _ _ _ _ (c .before .before .before .before .before .before .before .before .before .before .before .before .before .before .before .before .before .binary .ensures) in
     let d = make-on _ _ _ _ [] _ [] _ (c .before .before .before .before .before .before .make .ensures []) in
     (omega arith, g .1)
 
-again : (t : ℕ) (c : binary-lts.After-s2 (claims t) (binary-at t) binary.Post binary-Inv-loop binary-μ-loop) → let n = next-is (c .before .before .before .before .before .before .before .before .before .before .before .before .before .before .before .before .before .before .before .before .before .before .before .before .before .before .before .before .before .before .before .before .before .before .before .before .before .before .before .before .before .before .args .tokens .now) (c .before .before .before .before .before .before .before .before .before .before .before .before .before .before .before .before .before .before .before .before .before .before .before .before .before .before .before .loop .s .current) _ _ _ (c .before .before .before .before .before .before .before .before .before .before .before .before .before .before .before .before .before .before .before .before .before .before .before .before .before .before .skip .ensures) (c .before .before .before .before .before .before .before .before .before .before .before .before .before .before .before .before .before .before .before .before .before .before .before .before .before .kind-at .ensures) (c .before .before .before .before .before .before .before .before .before .before .before .before .before .before .before .before .before .before .before .before .before .next .ensures) in let e = turns-found (c .before .before .before .before .before .before .before .before .before .before .before .before .before .before .before .before .before .before .before .before .before .before .before .before .before .before .before .before .before .before .before .before .before .before .before .before .before .before .before .before .before .before .args .tokens .now) (lower (c .before .before .before .before .before .before .before .before .before .before .before .before .before .before .before .before .before .before .before .before .before .before .before .before .before .before .before .before .before .before .before .before .before .before .before .before .before .before .before .before .before .before .args .tokens .now) (c .before .before .before .before .before .before .before .before .before .before .before .before .before .before .before .before .before .before .before .before .before .before .before .before .before .before .before .before .before .before .before .before .before .before .before .before .before .before .before .before .before .before .args .levels)) (c .before .before .before .before .before .before .before .before .before .before .before .before .before .before .before .before .before .before .before .before .before .before .before .before .before .before .before .before .before .before .before .before .before .before .before .before .before .before .before .before .before .before .args .looser) (c .before .before .before .before .before .before .before .before .before .before .before .before .before .before .before .before .before .before .before .before .before .before .before .before .before .before .before .loop .left) (c .before .before .before .before .before .before .before .before .before .before .before .before .before .before .before .before .before .before .before .before .before .before .before .before .before .before .before .loop .s) (c .before .before .before .before .before .before .before .before .before .before .before .before .before .before .before .before .before .before .before .before .before .before .before .before .before .before .before .loop .errors) (c .before .before .before .before .before .before .before .before .before .before .before .before .before .before .before .before .before .before .before .before .before .before .before .before .before .before .before .loop .nodes) _ _ n (c .before .before .before .before .before .before .before .before .before .before .before .before .before .before .before .before .before .before .before .before .before .before .before .before .before .before .before .loop .inv .fuel) (c .before .before .before .before .before .before .before .before .before .before .before .before .before .before .before .before .before .before .before .before .before .before .before .before .before .before .before .loop .r) (c .before .before .before .before .before .before .before .before .before .before .before .before .before .before .before .before .before .before .before .before .before .before .before .before .rank-of .result) (c .before .before .before .before .before .before .before .before .before .before .before .before .before .before .before .before .before .before .before .before .before .before .before .if1 .left) (c .before .before .before .before .before .before .before .before .before .before .before .before .before .before .before .before .before .before .before .before .before .before .if2 .left) (c .before .before .before .before .before .before .before .before .before .before .before .before .before .before .before .before .before .before .before .before .before .before .before .before .before .before .before .loop .inv .within) (c .before .before .before .before .before .before .before .before .before .before .before .before .before .before .before .before .before .before .before .before .before .before .before .before .before .before .before .loop .inv .enough) (sym (c .before .before .before .before .before .before .before .before .before .before .before .before .before .before .before .before .before .before .before .before .before .before .before .before .rank-of .ensures)) in onFrom (c .before .before .before .before .before .before .before .before .before .before .before .before .before .before .before .before .before .before .before .before .before .before .before .before .before .before .before .before .before .before .before .before .before .before .before .before .before .before .before .before .before .before .args .tokens .now) (c .before .before .before .before .before .before .before .before .before .before .before .before .before .before .before .before .before .before .before .before .before .before .before .before .before .before .before .before .before .before .before .before .before .before .before .before .before .before .before .before .before .before .args .levels) (c .before .before .before .before .before .before .before .before .before .before .before .before .before .before .before .before .before .before .before .before .before .before .before .before .before .before .before .before .before .before .before .before .before .before .before .before .before .before .before .before .before .before .args .looser) (e .fuelled) (c .before .before .before .before .before .before .before .before .before .before .before .before .before .before .before .before .before .before .before .before .before .before .before .before .rank-of .result) (c .before .before .km .given .0 .0) (c .before .before .before .before .before .before .make .result .p) (c .before .before .before .before .before .before .before .before .before .before .before .before .before .before .before .before .before .binary .last .1 .0) (c .before .before .before .before .before .before .make .last .0) ≡ onFrom (c .before .before .before .before .before .before .before .before .before .before .before .before .before .before .before .before .before .before .before .before .before .before .before .before .before .before .before .before .before .before .before .before .before .before .before .before .before .before .before .before .before .before .args .tokens .now) (c .before .before .before .before .before .before .before .before .before .before .before .before .before .before .before .before .before .before .before .before .before .before .before .before .before .before .before .before .before .before .before .before .before .before .before .before .before .before .before .before .before .before .args .levels) (c .before .before .before .before .before .before .before .before .before .before .before .before .before .before .before .before .before .before .before .before .before .before .before .before .before .before .before .before .before .before .before .before .before .before .before .before .before .before .before .before .before .before .args .looser) (suc (c .before .before .before .before .before .before .before .before .before .before .before .before .before .before .before .before .before .before .before .before .before .before .before .before .before .before .before .loop .inv .fuel)) (c .before .before .before .before .before .before .before .before .before .before .before .before .before .before .before .before .before .before .before .before .before .before .before .before .before .before .before .loop .r) (c .before .before .before .before .before .before .before .before .before .before .before .before .before .before .before .before .before .before .before .before .before .before .before .before .before .before .before .loop .left) (c .before .before .before .before .before .before .before .before .before .before .before .before .before .before .before .before .before .before .before .before .before .before .before .before .before .before .before .loop .s) (c .before .before .before .before .before .before .before .before .before .before .before .before .before .before .before .before .before .before .before .before .before .before .before .before .before .before .before .loop .errors) (c .before .before .before .before .before .before .before .before .before .before .before .before .before .before .before .before .before .before .before .before .before .before .before .before .before .before .before .loop .nodes)
+again : (t : ℕ) (c : binary-lts.After-s2 (claims t) (binary-at t) binary.Post binary-Inv-loop binary-μ-loop) → let n = peeked (c .before .before .before .before .before .before .before .before .before .before .before .before .before .before .before .before .before .before .before .before .before .before .before .before .before .before .before .before .before .before .before .before .before .before .before .before .before .before .before .before .args .tokens .now) (c .before .before .before .before .before .before .before .before .before .before .before .before .before .before .before .before .before .before .before .before .before .before .before .before .before .loop .s .current) _ (c .before .before .before .before .before .before .before .before .before .before .before .before .before .before .before .before .before .before .before .before .before .before .before .before .peek .ensures) in let e = turns-found (c .before .before .before .before .before .before .before .before .before .before .before .before .before .before .before .before .before .before .before .before .before .before .before .before .before .before .before .before .before .before .before .before .before .before .before .before .before .before .before .before .args .tokens .now) (lower (c .before .before .before .before .before .before .before .before .before .before .before .before .before .before .before .before .before .before .before .before .before .before .before .before .before .before .before .before .before .before .before .before .before .before .before .before .before .before .before .before .args .tokens .now) (c .before .before .before .before .before .before .before .before .before .before .before .before .before .before .before .before .before .before .before .before .before .before .before .before .before .before .before .before .before .before .before .before .before .before .before .before .before .before .before .before .args .levels)) (c .before .before .before .before .before .before .before .before .before .before .before .before .before .before .before .before .before .before .before .before .before .before .before .before .before .before .before .before .before .before .before .before .before .before .before .before .before .before .before .before .args .looser) (c .before .before .before .before .before .before .before .before .before .before .before .before .before .before .before .before .before .before .before .before .before .before .before .before .before .loop .left) (c .before .before .before .before .before .before .before .before .before .before .before .before .before .before .before .before .before .before .before .before .before .before .before .before .before .loop .s) (c .before .before .before .before .before .before .before .before .before .before .before .before .before .before .before .before .before .before .before .before .before .before .before .before .before .loop .errors) (c .before .before .before .before .before .before .before .before .before .before .before .before .before .before .before .before .before .before .before .before .before .before .before .before .before .loop .nodes) _ _ n (c .before .before .before .before .before .before .before .before .before .before .before .before .before .before .before .before .before .before .before .before .before .before .before .before .before .loop .inv .fuel) (c .before .before .before .before .before .before .before .before .before .before .before .before .before .before .before .before .before .before .before .before .before .before .before .before .before .loop .r) (c .before .before .before .before .before .before .before .before .before .before .before .before .before .before .before .before .before .before .before .before .before .before .before .rank-of .result) (c .before .before .before .before .before .before .before .before .before .before .before .before .before .before .before .before .before .before .before .before .before .before .if1 .left) (c .before .before .before .before .before .before .before .before .before .before .before .before .before .before .before .before .before .before .before .before .before .if2 .left) (c .before .before .before .before .before .before .before .before .before .before .before .before .before .before .before .before .before .before .before .before .before .before .before .before .before .loop .inv .within) (c .before .before .before .before .before .before .before .before .before .before .before .before .before .before .before .before .before .before .before .before .before .before .before .before .before .loop .inv .enough) (sym (c .before .before .before .before .before .before .before .before .before .before .before .before .before .before .before .before .before .before .before .before .before .before .before .rank-of .ensures)) in onFrom (c .before .before .before .before .before .before .before .before .before .before .before .before .before .before .before .before .before .before .before .before .before .before .before .before .before .before .before .before .before .before .before .before .before .before .before .before .before .before .before .before .args .tokens .now) (c .before .before .before .before .before .before .before .before .before .before .before .before .before .before .before .before .before .before .before .before .before .before .before .before .before .before .before .before .before .before .before .before .before .before .before .before .before .before .before .before .args .levels) (c .before .before .before .before .before .before .before .before .before .before .before .before .before .before .before .before .before .before .before .before .before .before .before .before .before .before .before .before .before .before .before .before .before .before .before .before .before .before .before .before .args .looser) (e .fuelled) (c .before .before .before .before .before .before .before .before .before .before .before .before .before .before .before .before .before .before .before .before .before .before .before .rank-of .result) (c .before .before .km .given .0 .0) (c .before .before .before .before .before .before .make .result .p) (c .before .before .before .before .before .before .before .before .before .before .before .before .before .before .before .before .before .binary .last .1 .0) (c .before .before .before .before .before .before .make .last .0) ≡ onFrom (c .before .before .before .before .before .before .before .before .before .before .before .before .before .before .before .before .before .before .before .before .before .before .before .before .before .before .before .before .before .before .before .before .before .before .before .before .before .before .before .before .args .tokens .now) (c .before .before .before .before .before .before .before .before .before .before .before .before .before .before .before .before .before .before .before .before .before .before .before .before .before .before .before .before .before .before .before .before .before .before .before .before .before .before .before .before .args .levels) (c .before .before .before .before .before .before .before .before .before .before .before .before .before .before .before .before .before .before .before .before .before .before .before .before .before .before .before .before .before .before .before .before .before .before .before .before .before .before .before .before .args .looser) (suc (c .before .before .before .before .before .before .before .before .before .before .before .before .before .before .before .before .before .before .before .before .before .before .before .before .before .loop .inv .fuel)) (c .before .before .before .before .before .before .before .before .before .before .before .before .before .before .before .before .before .before .before .before .before .before .before .before .before .loop .r) (c .before .before .before .before .before .before .before .before .before .before .before .before .before .before .before .before .before .before .before .before .before .before .before .before .before .loop .left) (c .before .before .before .before .before .before .before .before .before .before .before .before .before .before .before .before .before .before .before .before .before .before .before .before .before .loop .s) (c .before .before .before .before .before .before .before .before .before .before .before .before .before .before .before .before .before .before .before .before .before .before .before .before .before .loop .errors) (c .before .before .before .before .before .before .before .before .before .before .before .before .before .before .before .before .before .before .before .before .before .before .before .before .before .loop .nodes)
 again t c =
-    let n = next-is (c .before .before .before .before .before .before .before .before .before .before .before .before .before .before .before .before .before .before .before .before .before .before .before .before .before .before .before .before .before .before .before .before .before .before .before .before .before .before .before .before .before .before .args .tokens .now) (c .before .before .before .before .before .before .before .before .before .before .before .before .before .before .before .before .before .before .before .before .before .before .before .before .before .before .before .loop .s .current) _ _ _ (c .before .before .before .before .before .before .before .before .before .before .before .before .before .before .before .before .before .before .before .before .before .before .before .before .before .before .skip .ensures) (c .before .before .before .before .before .before .before .before .before .before .before .before .before .before .before .before .before .before .before .before .before .before .before .before .before .kind-at .ensures) (c .before .before .before .before .before .before .before .before .before .before .before .before .before .before .before .before .before .before .before .before .before .next .ensures) in
-    let e = turns-found (c .before .before .before .before .before .before .before .before .before .before .before .before .before .before .before .before .before .before .before .before .before .before .before .before .before .before .before .before .before .before .before .before .before .before .before .before .before .before .before .before .before .before .args .tokens .now) (lower (c .before .before .before .before .before .before .before .before .before .before .before .before .before .before .before .before .before .before .before .before .before .before .before .before .before .before .before .before .before .before .before .before .before .before .before .before .before .before .before .before .before .before .args .tokens .now) (c .before .before .before .before .before .before .before .before .before .before .before .before .before .before .before .before .before .before .before .before .before .before .before .before .before .before .before .before .before .before .before .before .before .before .before .before .before .before .before .before .before .before .args .levels)) (c .before .before .before .before .before .before .before .before .before .before .before .before .before .before .before .before .before .before .before .before .before .before .before .before .before .before .before .before .before .before .before .before .before .before .before .before .before .before .before .before .before .before .args .looser) (c .before .before .before .before .before .before .before .before .before .before .before .before .before .before .before .before .before .before .before .before .before .before .before .before .before .before .before .loop .left) (c .before .before .before .before .before .before .before .before .before .before .before .before .before .before .before .before .before .before .before .before .before .before .before .before .before .before .before .loop .s) (c .before .before .before .before .before .before .before .before .before .before .before .before .before .before .before .before .before .before .before .before .before .before .before .before .before .before .before .loop .errors) (c .before .before .before .before .before .before .before .before .before .before .before .before .before .before .before .before .before .before .before .before .before .before .before .before .before .before .before .loop .nodes) _ _ n (c .before .before .before .before .before .before .before .before .before .before .before .before .before .before .before .before .before .before .before .before .before .before .before .before .before .before .before .loop .inv .fuel) (c .before .before .before .before .before .before .before .before .before .before .before .before .before .before .before .before .before .before .before .before .before .before .before .before .before .before .before .loop .r) (c .before .before .before .before .before .before .before .before .before .before .before .before .before .before .before .before .before .before .before .before .before .before .before .before .rank-of .result) (c .before .before .before .before .before .before .before .before .before .before .before .before .before .before .before .before .before .before .before .before .before .before .before .if1 .left) (c .before .before .before .before .before .before .before .before .before .before .before .before .before .before .before .before .before .before .before .before .before .before .if2 .left) (c .before .before .before .before .before .before .before .before .before .before .before .before .before .before .before .before .before .before .before .before .before .before .before .before .before .before .before .loop .inv .within) (c .before .before .before .before .before .before .before .before .before .before .before .before .before .before .before .before .before .before .before .before .before .before .before .before .before .before .before .loop .inv .enough) (sym (c .before .before .before .before .before .before .before .before .before .before .before .before .before .before .before .before .before .before .before .before .before .before .before .before .rank-of .ensures)) in
+    let n = peeked (c .before .before .before .before .before .before .before .before .before .before .before .before .before .before .before .before .before .before .before .before .before .before .before .before .before .before .before .before .before .before .before .before .before .before .before .before .before .before .before .before .args .tokens .now) (c .before .before .before .before .before .before .before .before .before .before .before .before .before .before .before .before .before .before .before .before .before .before .before .before .before .loop .s .current) _ (c .before .before .before .before .before .before .before .before .before .before .before .before .before .before .before .before .before .before .before .before .before .before .before .before .peek .ensures) in
+    let e = turns-found (c .before .before .before .before .before .before .before .before .before .before .before .before .before .before .before .before .before .before .before .before .before .before .before .before .before .before .before .before .before .before .before .before .before .before .before .before .before .before .before .before .args .tokens .now) (lower (c .before .before .before .before .before .before .before .before .before .before .before .before .before .before .before .before .before .before .before .before .before .before .before .before .before .before .before .before .before .before .before .before .before .before .before .before .before .before .before .before .args .tokens .now) (c .before .before .before .before .before .before .before .before .before .before .before .before .before .before .before .before .before .before .before .before .before .before .before .before .before .before .before .before .before .before .before .before .before .before .before .before .before .before .before .before .args .levels)) (c .before .before .before .before .before .before .before .before .before .before .before .before .before .before .before .before .before .before .before .before .before .before .before .before .before .before .before .before .before .before .before .before .before .before .before .before .before .before .before .before .args .looser) (c .before .before .before .before .before .before .before .before .before .before .before .before .before .before .before .before .before .before .before .before .before .before .before .before .before .loop .left) (c .before .before .before .before .before .before .before .before .before .before .before .before .before .before .before .before .before .before .before .before .before .before .before .before .before .loop .s) (c .before .before .before .before .before .before .before .before .before .before .before .before .before .before .before .before .before .before .before .before .before .before .before .before .before .loop .errors) (c .before .before .before .before .before .before .before .before .before .before .before .before .before .before .before .before .before .before .before .before .before .before .before .before .before .loop .nodes) _ _ n (c .before .before .before .before .before .before .before .before .before .before .before .before .before .before .before .before .before .before .before .before .before .before .before .before .before .loop .inv .fuel) (c .before .before .before .before .before .before .before .before .before .before .before .before .before .before .before .before .before .before .before .before .before .before .before .before .before .loop .r) (c .before .before .before .before .before .before .before .before .before .before .before .before .before .before .before .before .before .before .before .before .before .before .before .rank-of .result) (c .before .before .before .before .before .before .before .before .before .before .before .before .before .before .before .before .before .before .before .before .before .before .if1 .left) (c .before .before .before .before .before .before .before .before .before .before .before .before .before .before .before .before .before .before .before .before .before .if2 .left) (c .before .before .before .before .before .before .before .before .before .before .before .before .before .before .before .before .before .before .before .before .before .before .before .before .before .loop .inv .within) (c .before .before .before .before .before .before .before .before .before .before .before .before .before .before .before .before .before .before .before .before .before .before .before .before .before .loop .inv .enough) (sym (c .before .before .before .before .before .before .before .before .before .before .before .before .before .before .before .before .before .before .before .before .before .before .before .rank-of .ensures)) in
     rw (e .same, ← c .before .before .before .before .before .before .before .before .before .before .before .before .before .before .before .before .before .before .at-token .ensures, ← c .before .before .before .before .before .before .before .before .before .before .before .before .before .before .before .before .before .binary .ensures) (rw (c .before .before .before .before .before .before .before .before .before .before .before .kh .given .1, ← c .before .before .before .before .before .before .before .operation .ensures, ← c .before .before .before .before .before .before .make .ensures (c .before .before .before .before .before .before .before .before .before .before .before .before .before .before .before .before .before .binary .last .1 .0)) (rw (c .before .before .km .given .1)))
 
 unary-requires : (t : ℕ) → binary-lts.Need-unary-requires (claims t) (binary-at t) binary.Post binary-Inv-loop binary-μ-loop
@@ -97,11 +91,8 @@ returns t c =
 loop-holds : (t : ℕ) → binary-lts.Need-loop-holds (claims t) (binary-at t) binary.Post binary-Inv-loop binary-μ-loop
 loop-holds t c = record { fuel = count (c .before .before .before .before .before .before .before .before .before .before .before .before .before .before .args .tokens .now); enough = omega arith; within = omega arith; same = refl; errors = refl; nodes = refl }
 
-skip-requires : (t : ℕ) → binary-lts.Need-skip-requires (claims t) (binary-at t) binary.Post binary-Inv-loop binary-μ-loop
-skip-requires t c κs = search needs
-
-kind-at-requires : (t : ℕ) → binary-lts.Need-kind-at-requires (claims t) (binary-at t) binary.Post binary-Inv-loop binary-μ-loop
-kind-at-requires t c κs = search needs
+peek-requires : (t : ℕ) → binary-lts.Need-peek-requires (claims t) (binary-at t) binary.Post binary-Inv-loop binary-μ-loop
+peek-requires t c κs = search needs
 
 rank-of-requires : (t : ℕ) → binary-lts.Need-rank-of-requires (claims t) (binary-at t) binary.Post binary-Inv-loop binary-μ-loop
 rank-of-requires t c κs = search needs
@@ -110,40 +101,37 @@ found-requires : (t : ℕ) → binary-lts.Need-found-requires (claims t) (binary
 found-requires t c κs = search needs
 
 same-length-3 : (t : ℕ) → binary-lts.Need-same-length-3 (claims t) (binary-at t) binary.Post binary-Inv-loop binary-μ-loop
-same-length-3 t c = c .before .before .before .before .before .loop .inv .errors ∙ c .before .before .before .before .before .before .before .before .before .before .before .before .before .before .unary .kept .1 .0
+same-length-3 t c = c .before .before .before .before .loop .inv .errors ∙ c .before .before .before .before .before .before .before .before .before .before .before .before .before .unary .kept .1 .0
 
 same-length-4 : (t : ℕ) → binary-lts.Need-same-length-4 (claims t) (binary-at t) binary.Post binary-Inv-loop binary-μ-loop
-same-length-4 t c = c .before .before .before .before .before .loop .inv .nodes ∙ c .before .before .before .before .before .before .before .before .before .before .before .before .before .before .unary .kept .1 .1 .0
+same-length-4 t c = c .before .before .before .before .loop .inv .nodes ∙ c .before .before .before .before .before .before .before .before .before .before .before .before .before .unary .kept .1 .1 .0
 
 returns-2 : (t : ℕ) → binary-lts.Need-returns-2 (claims t) (binary-at t) binary.Post binary-Inv-loop binary-μ-loop
 returns-2 t c =
-    let n = next-is (c .before .before .before .before .before .before .before .before .before .before .before .before .before .before .before .before .before .before .before .before .args .tokens .now) (c .before .before .before .before .before .loop .s .current) _ _ _ (c .before .before .before .before .skip .ensures) (c .before .before .before .kind-at .ensures) (same (after (c .before .before .before .before .before .before .before .before .before .before .before .before .before .before .before .before .before .before .before .before .args .tokens .now) (c .before .before .before .before .skip .result))) in
-    let o = turns-over (c .before .before .before .before .before .before .before .before .before .before .before .before .before .before .before .before .before .before .before .before .args .tokens .now) (lower (c .before .before .before .before .before .before .before .before .before .before .before .before .before .before .before .before .before .before .before .before .args .tokens .now) (c .before .before .before .before .before .before .before .before .before .before .before .before .before .before .before .before .before .before .before .before .args .levels)) (c .before .before .before .before .before .before .before .before .before .before .before .before .before .before .before .before .before .before .before .before .args .looser) (c .before .before .before .before .before .loop .left) (c .before .before .before .before .before .loop .s) (c .before .before .before .before .before .loop .errors) (c .before .before .before .before .before .loop .nodes) _ _ n (c .before .before .before .before .before .loop .inv .fuel) (c .before .before .before .before .before .loop .r) (c .before .before .before .before .before .loop .inv .within) (c .before .before .before .before .before .loop .inv .enough) (λ y a b i. absurd (omega (arith, a, c .before .if1 .taken, i, c .before .before .rank-of .ensures))) in
-    ap (λ (x : Out). reply (x .p) (x .got) (c .before .before .before .before .before .loop .errors) (c .before .before .before .before .before .loop .nodes)) (c .found .ensures) ∙ sym (head t (c .before .before .before .before .before) ∙ o)
+    let n = peeked (c .before .before .before .before .before .before .before .before .before .before .before .before .before .before .before .before .before .before .before .args .tokens .now) (c .before .before .before .before .loop .s .current) _ (c .before .before .before .peek .ensures) in
+    let o = turns-over (c .before .before .before .before .before .before .before .before .before .before .before .before .before .before .before .before .before .before .before .args .tokens .now) (lower (c .before .before .before .before .before .before .before .before .before .before .before .before .before .before .before .before .before .before .before .args .tokens .now) (c .before .before .before .before .before .before .before .before .before .before .before .before .before .before .before .before .before .before .before .args .levels)) (c .before .before .before .before .before .before .before .before .before .before .before .before .before .before .before .before .before .before .before .args .looser) (c .before .before .before .before .loop .left) (c .before .before .before .before .loop .s) (c .before .before .before .before .loop .errors) (c .before .before .before .before .loop .nodes) _ _ n (c .before .before .before .before .loop .inv .fuel) (c .before .before .before .before .loop .r) (c .before .before .before .before .loop .inv .within) (c .before .before .before .before .loop .inv .enough) (λ y a b i. absurd (omega (arith, a, c .before .if1 .taken, i, c .before .before .rank-of .ensures))) in
+    ap (λ (x : Out). reply (x .p) (x .got) (c .before .before .before .before .loop .errors) (c .before .before .before .before .loop .nodes)) (c .found .ensures) ∙ sym (head t (c .before .before .before .before) ∙ o)
 
 found-requires-2 : (t : ℕ) → binary-lts.Need-found-requires-2 (claims t) (binary-at t) binary.Post binary-Inv-loop binary-μ-loop
 found-requires-2 t c κs = search needs
 
 same-length-5 : (t : ℕ) → binary-lts.Need-same-length-5 (claims t) (binary-at t) binary.Post binary-Inv-loop binary-μ-loop
-same-length-5 t c = c .before .before .before .before .before .before .loop .inv .errors ∙ c .before .before .before .before .before .before .before .before .before .before .before .before .before .before .before .unary .kept .1 .0
+same-length-5 t c = c .before .before .before .before .before .loop .inv .errors ∙ c .before .before .before .before .before .before .before .before .before .before .before .before .before .before .unary .kept .1 .0
 
 same-length-6 : (t : ℕ) → binary-lts.Need-same-length-6 (claims t) (binary-at t) binary.Post binary-Inv-loop binary-μ-loop
-same-length-6 t c = c .before .before .before .before .before .before .loop .inv .nodes ∙ c .before .before .before .before .before .before .before .before .before .before .before .before .before .before .before .unary .kept .1 .1 .0
+same-length-6 t c = c .before .before .before .before .before .loop .inv .nodes ∙ c .before .before .before .before .before .before .before .before .before .before .before .before .before .before .unary .kept .1 .1 .0
 
 returns-3 : (t : ℕ) → binary-lts.Need-returns-3 (claims t) (binary-at t) binary.Post binary-Inv-loop binary-μ-loop
 returns-3 t c =
-    let n = next-is (c .before .before .before .before .before .before .before .before .before .before .before .before .before .before .before .before .before .before .before .before .before .args .tokens .now) (c .before .before .before .before .before .before .loop .s .current) _ _ _ (c .before .before .before .before .before .skip .ensures) (c .before .before .before .before .kind-at .ensures) (same (after (c .before .before .before .before .before .before .before .before .before .before .before .before .before .before .before .before .before .before .before .before .before .args .tokens .now) (c .before .before .before .before .before .skip .result))) in
-    let o = turns-over (c .before .before .before .before .before .before .before .before .before .before .before .before .before .before .before .before .before .before .before .before .before .args .tokens .now) (lower (c .before .before .before .before .before .before .before .before .before .before .before .before .before .before .before .before .before .before .before .before .before .args .tokens .now) (c .before .before .before .before .before .before .before .before .before .before .before .before .before .before .before .before .before .before .before .before .before .args .levels)) (c .before .before .before .before .before .before .before .before .before .before .before .before .before .before .before .before .before .before .before .before .before .args .looser) (c .before .before .before .before .before .before .loop .left) (c .before .before .before .before .before .before .loop .s) (c .before .before .before .before .before .before .loop .errors) (c .before .before .before .before .before .before .loop .nodes) _ _ n (c .before .before .before .before .before .before .loop .inv .fuel) (c .before .before .before .before .before .before .loop .r) (c .before .before .before .before .before .before .loop .inv .within) (c .before .before .before .before .before .before .loop .inv .enough) (λ y a b i. absurd (omega (arith, b, c .before .if2 .taken, i, c .before .before .before .rank-of .ensures))) in
-    ap (λ (x : Out). reply (x .p) (x .got) (c .before .before .before .before .before .before .loop .errors) (c .before .before .before .before .before .before .loop .nodes)) (c .found2 .ensures) ∙ sym (head t (c .before .before .before .before .before .before) ∙ o)
-
-next-requires : (t : ℕ) → binary-lts.Need-next-requires (claims t) (binary-at t) binary.Post binary-Inv-loop binary-μ-loop
-next-requires t c κs = search needs
+    let n = peeked (c .before .before .before .before .before .before .before .before .before .before .before .before .before .before .before .before .before .before .before .before .args .tokens .now) (c .before .before .before .before .before .loop .s .current) _ (c .before .before .before .before .peek .ensures) in
+    let o = turns-over (c .before .before .before .before .before .before .before .before .before .before .before .before .before .before .before .before .before .before .before .before .args .tokens .now) (lower (c .before .before .before .before .before .before .before .before .before .before .before .before .before .before .before .before .before .before .before .before .args .tokens .now) (c .before .before .before .before .before .before .before .before .before .before .before .before .before .before .before .before .before .before .before .before .args .levels)) (c .before .before .before .before .before .before .before .before .before .before .before .before .before .before .before .before .before .before .before .before .args .looser) (c .before .before .before .before .before .loop .left) (c .before .before .before .before .before .loop .s) (c .before .before .before .before .before .loop .errors) (c .before .before .before .before .before .loop .nodes) _ _ n (c .before .before .before .before .before .loop .inv .fuel) (c .before .before .before .before .before .loop .r) (c .before .before .before .before .before .loop .inv .within) (c .before .before .before .before .before .loop .inv .enough) (λ y a b i. absurd (omega (arith, b, c .before .if2 .taken, i, c .before .before .before .rank-of .ensures))) in
+    ap (λ (x : Out). reply (x .p) (x .got) (c .before .before .before .before .before .loop .errors) (c .before .before .before .before .before .loop .nodes)) (c .found2 .ensures) ∙ sym (head t (c .before .before .before .before .before) ∙ o)
 
 at-token-requires : (t : ℕ) → binary-lts.Need-at-token-requires (claims t) (binary-at t) binary.Post binary-Inv-loop binary-μ-loop
 at-token-requires t c κs = search needs
 
 binary-requires : (t : ℕ) → binary-lts.Need-binary-requires (claims t) (binary-at t) binary.Post binary-Inv-loop binary-μ-loop
-binary-requires t c κs = omega (arith, c .before .before .before .before .before .before .before .before .before .before .before .before .before .before .before .before .before .before .before .before .before .before .before .before .pre, c .before .before .before .before .before .if1 .left, c .before .before .before .before .if2 .left, c .before .before .before .before .before .before .before .before .before .loop .inv .within)
+binary-requires t c κs = omega (arith, c .before .before .before .before .before .before .before .before .before .before .before .before .before .before .before .before .before .before .before .before .before .before .pre, c .before .before .before .before .if1 .left, c .before .before .before .if2 .left, c .before .before .before .before .before .before .before .loop .inv .within)
 
 enum-known-kh : (t : ℕ) → binary-lts.Need-enum-known-kh (claims t) (binary-at t) binary.Post binary-Inv-loop binary-μ-loop
 enum-known-kh t c = search needs
@@ -152,16 +140,16 @@ enum-told-2 : (t : ℕ) → binary-lts.Need-enum-told-2 (claims t) (binary-at t)
 enum-told-2 t c = search needs
 
 same-length-7 : (t : ℕ) → binary-lts.Need-same-length-7 (claims t) (binary-at t) binary.Post binary-Inv-loop binary-μ-loop
-same-length-7 t c = c .before .before .before .before .before .before .binary .kept .1 .0 ∙ c .before .before .before .before .before .before .before .before .before .before .before .before .before .before .before .before .loop .inv .errors ∙ c .before .before .before .before .before .before .before .before .before .before .before .before .before .before .before .before .before .before .before .before .before .before .before .before .before .unary .kept .1 .0
+same-length-7 t c = c .before .before .before .before .before .before .binary .kept .1 .0 ∙ c .before .before .before .before .before .before .before .before .before .before .before .before .before .before .loop .inv .errors ∙ c .before .before .before .before .before .before .before .before .before .before .before .before .before .before .before .before .before .before .before .before .before .before .before .unary .kept .1 .0
 
 same-length-8 : (t : ℕ) → binary-lts.Need-same-length-8 (claims t) (binary-at t) binary.Post binary-Inv-loop binary-μ-loop
-same-length-8 t c = c .before .before .before .before .before .before .binary .kept .1 .1 .0 ∙ c .before .before .before .before .before .before .before .before .before .before .before .before .before .before .before .before .loop .inv .nodes ∙ c .before .before .before .before .before .before .before .before .before .before .before .before .before .before .before .before .before .before .before .before .before .before .before .before .before .unary .kept .1 .1 .0
+same-length-8 t c = c .before .before .before .before .before .before .binary .kept .1 .1 .0 ∙ c .before .before .before .before .before .before .before .before .before .before .before .before .before .before .loop .inv .nodes ∙ c .before .before .before .before .before .before .before .before .before .before .before .before .before .before .before .before .before .before .before .before .before .before .before .unary .kept .1 .1 .0
 
 returns-4 : (t : ℕ) → binary-lts.Need-returns-4 (claims t) (binary-at t) binary.Post binary-Inv-loop binary-μ-loop
 returns-4 t c =
-    let n = next-is (c .before .before .before .before .before .before .before .before .before .before .before .before .before .before .before .before .before .before .before .before .before .before .before .before .before .before .before .before .before .before .before .args .tokens .now) (c .before .before .before .before .before .before .before .before .before .before .before .before .before .before .before .before .loop .s .current) _ _ _ (c .before .before .before .before .before .before .before .before .before .before .before .before .before .before .before .skip .ensures) (c .before .before .before .before .before .before .before .before .before .before .before .before .before .before .kind-at .ensures) (c .before .before .before .before .before .before .before .before .before .before .next .ensures) in
-    let e = turns-found (c .before .before .before .before .before .before .before .before .before .before .before .before .before .before .before .before .before .before .before .before .before .before .before .before .before .before .before .before .before .before .before .args .tokens .now) (lower (c .before .before .before .before .before .before .before .before .before .before .before .before .before .before .before .before .before .before .before .before .before .before .before .before .before .before .before .before .before .before .before .args .tokens .now) (c .before .before .before .before .before .before .before .before .before .before .before .before .before .before .before .before .before .before .before .before .before .before .before .before .before .before .before .before .before .before .before .args .levels)) (c .before .before .before .before .before .before .before .before .before .before .before .before .before .before .before .before .before .before .before .before .before .before .before .before .before .before .before .before .before .before .before .args .looser) (c .before .before .before .before .before .before .before .before .before .before .before .before .before .before .before .before .loop .left) (c .before .before .before .before .before .before .before .before .before .before .before .before .before .before .before .before .loop .s) (c .before .before .before .before .before .before .before .before .before .before .before .before .before .before .before .before .loop .errors) (c .before .before .before .before .before .before .before .before .before .before .before .before .before .before .before .before .loop .nodes) _ _ n (c .before .before .before .before .before .before .before .before .before .before .before .before .before .before .before .before .loop .inv .fuel) (c .before .before .before .before .before .before .before .before .before .before .before .before .before .before .before .before .loop .r) (c .before .before .before .before .before .before .before .before .before .before .before .before .before .rank-of .result) (c .before .before .before .before .before .before .before .before .before .before .before .before .if1 .left) (c .before .before .before .before .before .before .before .before .before .before .before .if2 .left) (c .before .before .before .before .before .before .before .before .before .before .before .before .before .before .before .before .loop .inv .within) (c .before .before .before .before .before .before .before .before .before .before .before .before .before .before .before .before .loop .inv .enough) (sym (c .before .before .before .before .before .before .before .before .before .before .before .before .before .rank-of .ensures)) in
-    rw (head t (c .before .before .before .before .before .before .before .before .before .before .before .before .before .before .before .before), e .same, ← c .before .before .before .before .before .before .before .at-token .ensures) (rw (← c .before .before .before .before .before .before .binary .ensures, c .enum-told2 .given .1))
+    let n = peeked (c .before .before .before .before .before .before .before .before .before .before .before .before .before .before .before .before .before .before .before .before .before .before .before .before .before .before .before .before .before .args .tokens .now) (c .before .before .before .before .before .before .before .before .before .before .before .before .before .before .loop .s .current) _ (c .before .before .before .before .before .before .before .before .before .before .before .before .before .peek .ensures) in
+    let e = turns-found (c .before .before .before .before .before .before .before .before .before .before .before .before .before .before .before .before .before .before .before .before .before .before .before .before .before .before .before .before .before .args .tokens .now) (lower (c .before .before .before .before .before .before .before .before .before .before .before .before .before .before .before .before .before .before .before .before .before .before .before .before .before .before .before .before .before .args .tokens .now) (c .before .before .before .before .before .before .before .before .before .before .before .before .before .before .before .before .before .before .before .before .before .before .before .before .before .before .before .before .before .args .levels)) (c .before .before .before .before .before .before .before .before .before .before .before .before .before .before .before .before .before .before .before .before .before .before .before .before .before .before .before .before .before .args .looser) (c .before .before .before .before .before .before .before .before .before .before .before .before .before .before .loop .left) (c .before .before .before .before .before .before .before .before .before .before .before .before .before .before .loop .s) (c .before .before .before .before .before .before .before .before .before .before .before .before .before .before .loop .errors) (c .before .before .before .before .before .before .before .before .before .before .before .before .before .before .loop .nodes) _ _ n (c .before .before .before .before .before .before .before .before .before .before .before .before .before .before .loop .inv .fuel) (c .before .before .before .before .before .before .before .before .before .before .before .before .before .before .loop .r) (c .before .before .before .before .before .before .before .before .before .before .before .before .rank-of .result) (c .before .before .before .before .before .before .before .before .before .before .before .if1 .left) (c .before .before .before .before .before .before .before .before .before .before .if2 .left) (c .before .before .before .before .before .before .before .before .before .before .before .before .before .before .loop .inv .within) (c .before .before .before .before .before .before .before .before .before .before .before .before .before .before .loop .inv .enough) (sym (c .before .before .before .before .before .before .before .before .before .before .before .before .rank-of .ensures)) in
+    rw (head t (c .before .before .before .before .before .before .before .before .before .before .before .before .before .before), e .same, ← c .before .before .before .before .before .before .before .at-token .ensures) (rw (← c .before .before .before .before .before .before .binary .ensures, c .enum-told2 .given .1))
 
 operation-requires : (t : ℕ) → binary-lts.Need-operation-requires (claims t) (binary-at t) binary.Post binary-Inv-loop binary-μ-loop
 operation-requires t c κs = search needs
@@ -176,16 +164,16 @@ enum-told-3 : (t : ℕ) → binary-lts.Need-enum-told-3 (claims t) (binary-at t)
 enum-told-3 t c = search needs
 
 same-length-9 : (t : ℕ) → binary-lts.Need-same-length-9 (claims t) (binary-at t) binary.Post binary-Inv-loop binary-μ-loop
-same-length-9 t c = c .before .before .before .before .before .before .before .before .before .before .before .before .before .before .before .binary .kept .1 .0 ∙ c .before .before .before .before .before .before .before .before .before .before .before .before .before .before .before .before .before .before .before .before .before .before .before .before .before .loop .inv .errors ∙ c .before .before .before .before .before .before .before .before .before .before .before .before .before .before .before .before .before .before .before .before .before .before .before .before .before .before .before .before .before .before .before .before .before .before .unary .kept .1 .0
+same-length-9 t c = c .before .before .before .before .before .before .before .before .before .before .before .before .before .before .before .binary .kept .1 .0 ∙ c .before .before .before .before .before .before .before .before .before .before .before .before .before .before .before .before .before .before .before .before .before .before .before .loop .inv .errors ∙ c .before .before .before .before .before .before .before .before .before .before .before .before .before .before .before .before .before .before .before .before .before .before .before .before .before .before .before .before .before .before .before .before .unary .kept .1 .0
 
 same-length-10 : (t : ℕ) → binary-lts.Need-same-length-10 (claims t) (binary-at t) binary.Post binary-Inv-loop binary-μ-loop
-same-length-10 t c = c .before .before .before .before .make .kept .0 ∙ c .before .before .before .before .before .before .before .before .before .before .before .before .before .before .before .binary .kept .1 .1 .0 ∙ c .before .before .before .before .before .before .before .before .before .before .before .before .before .before .before .before .before .before .before .before .before .before .before .before .before .loop .inv .nodes ∙ c .before .before .before .before .before .before .before .before .before .before .before .before .before .before .before .before .before .before .before .before .before .before .before .before .before .before .before .before .before .before .before .before .before .before .unary .kept .1 .1 .0
+same-length-10 t c = c .before .before .before .before .make .kept .0 ∙ c .before .before .before .before .before .before .before .before .before .before .before .before .before .before .before .binary .kept .1 .1 .0 ∙ c .before .before .before .before .before .before .before .before .before .before .before .before .before .before .before .before .before .before .before .before .before .before .before .loop .inv .nodes ∙ c .before .before .before .before .before .before .before .before .before .before .before .before .before .before .before .before .before .before .before .before .before .before .before .before .before .before .before .before .before .before .before .before .unary .kept .1 .1 .0
 
 returns-5 : (t : ℕ) → binary-lts.Need-returns-5 (claims t) (binary-at t) binary.Post binary-Inv-loop binary-μ-loop
 returns-5 t c =
-    let n = next-is (c .before .before .before .before .before .before .before .before .before .before .before .before .before .before .before .before .before .before .before .before .before .before .before .before .before .before .before .before .before .before .before .before .before .before .before .before .before .before .before .before .args .tokens .now) (c .before .before .before .before .before .before .before .before .before .before .before .before .before .before .before .before .before .before .before .before .before .before .before .before .before .loop .s .current) _ _ _ (c .before .before .before .before .before .before .before .before .before .before .before .before .before .before .before .before .before .before .before .before .before .before .before .before .skip .ensures) (c .before .before .before .before .before .before .before .before .before .before .before .before .before .before .before .before .before .before .before .before .before .before .before .kind-at .ensures) (c .before .before .before .before .before .before .before .before .before .before .before .before .before .before .before .before .before .before .before .next .ensures) in
-    let e = turns-found (c .before .before .before .before .before .before .before .before .before .before .before .before .before .before .before .before .before .before .before .before .before .before .before .before .before .before .before .before .before .before .before .before .before .before .before .before .before .before .before .before .args .tokens .now) (lower (c .before .before .before .before .before .before .before .before .before .before .before .before .before .before .before .before .before .before .before .before .before .before .before .before .before .before .before .before .before .before .before .before .before .before .before .before .before .before .before .before .args .tokens .now) (c .before .before .before .before .before .before .before .before .before .before .before .before .before .before .before .before .before .before .before .before .before .before .before .before .before .before .before .before .before .before .before .before .before .before .before .before .before .before .before .before .args .levels)) (c .before .before .before .before .before .before .before .before .before .before .before .before .before .before .before .before .before .before .before .before .before .before .before .before .before .before .before .before .before .before .before .before .before .before .before .before .before .before .before .before .args .looser) (c .before .before .before .before .before .before .before .before .before .before .before .before .before .before .before .before .before .before .before .before .before .before .before .before .before .loop .left) (c .before .before .before .before .before .before .before .before .before .before .before .before .before .before .before .before .before .before .before .before .before .before .before .before .before .loop .s) (c .before .before .before .before .before .before .before .before .before .before .before .before .before .before .before .before .before .before .before .before .before .before .before .before .before .loop .errors) (c .before .before .before .before .before .before .before .before .before .before .before .before .before .before .before .before .before .before .before .before .before .before .before .before .before .loop .nodes) _ _ n (c .before .before .before .before .before .before .before .before .before .before .before .before .before .before .before .before .before .before .before .before .before .before .before .before .before .loop .inv .fuel) (c .before .before .before .before .before .before .before .before .before .before .before .before .before .before .before .before .before .before .before .before .before .before .before .before .before .loop .r) (c .before .before .before .before .before .before .before .before .before .before .before .before .before .before .before .before .before .before .before .before .before .before .rank-of .result) (c .before .before .before .before .before .before .before .before .before .before .before .before .before .before .before .before .before .before .before .before .before .if1 .left) (c .before .before .before .before .before .before .before .before .before .before .before .before .before .before .before .before .before .before .before .before .if2 .left) (c .before .before .before .before .before .before .before .before .before .before .before .before .before .before .before .before .before .before .before .before .before .before .before .before .before .loop .inv .within) (c .before .before .before .before .before .before .before .before .before .before .before .before .before .before .before .before .before .before .before .before .before .before .before .before .before .loop .inv .enough) (sym (c .before .before .before .before .before .before .before .before .before .before .before .before .before .before .before .before .before .before .before .before .before .before .rank-of .ensures)) in
-    rw (head t (c .before .before .before .before .before .before .before .before .before .before .before .before .before .before .before .before .before .before .before .before .before .before .before .before .before), e .same, ← c .before .before .before .before .before .before .before .before .before .before .before .before .before .before .before .before .at-token .ensures) (rw (← c .before .before .before .before .before .before .before .before .before .before .before .before .before .before .before .binary .ensures, c .before .before .before .before .before .before .before .before .before .kh .given .1, ← c .before .before .before .before .before .operation .ensures) (rw (← c .before .before .before .before .make .ensures (c .before .before .before .before .before .before .before .before .before .before .before .before .before .before .before .binary .last .1 .0), c .enum-told3 .given .1)))
+    let n = peeked (c .before .before .before .before .before .before .before .before .before .before .before .before .before .before .before .before .before .before .before .before .before .before .before .before .before .before .before .before .before .before .before .before .before .before .before .before .before .before .args .tokens .now) (c .before .before .before .before .before .before .before .before .before .before .before .before .before .before .before .before .before .before .before .before .before .before .before .loop .s .current) _ (c .before .before .before .before .before .before .before .before .before .before .before .before .before .before .before .before .before .before .before .before .before .before .peek .ensures) in
+    let e = turns-found (c .before .before .before .before .before .before .before .before .before .before .before .before .before .before .before .before .before .before .before .before .before .before .before .before .before .before .before .before .before .before .before .before .before .before .before .before .before .before .args .tokens .now) (lower (c .before .before .before .before .before .before .before .before .before .before .before .before .before .before .before .before .before .before .before .before .before .before .before .before .before .before .before .before .before .before .before .before .before .before .before .before .before .before .args .tokens .now) (c .before .before .before .before .before .before .before .before .before .before .before .before .before .before .before .before .before .before .before .before .before .before .before .before .before .before .before .before .before .before .before .before .before .before .before .before .before .before .args .levels)) (c .before .before .before .before .before .before .before .before .before .before .before .before .before .before .before .before .before .before .before .before .before .before .before .before .before .before .before .before .before .before .before .before .before .before .before .before .before .before .args .looser) (c .before .before .before .before .before .before .before .before .before .before .before .before .before .before .before .before .before .before .before .before .before .before .before .loop .left) (c .before .before .before .before .before .before .before .before .before .before .before .before .before .before .before .before .before .before .before .before .before .before .before .loop .s) (c .before .before .before .before .before .before .before .before .before .before .before .before .before .before .before .before .before .before .before .before .before .before .before .loop .errors) (c .before .before .before .before .before .before .before .before .before .before .before .before .before .before .before .before .before .before .before .before .before .before .before .loop .nodes) _ _ n (c .before .before .before .before .before .before .before .before .before .before .before .before .before .before .before .before .before .before .before .before .before .before .before .loop .inv .fuel) (c .before .before .before .before .before .before .before .before .before .before .before .before .before .before .before .before .before .before .before .before .before .before .before .loop .r) (c .before .before .before .before .before .before .before .before .before .before .before .before .before .before .before .before .before .before .before .before .before .rank-of .result) (c .before .before .before .before .before .before .before .before .before .before .before .before .before .before .before .before .before .before .before .before .if1 .left) (c .before .before .before .before .before .before .before .before .before .before .before .before .before .before .before .before .before .before .before .if2 .left) (c .before .before .before .before .before .before .before .before .before .before .before .before .before .before .before .before .before .before .before .before .before .before .before .loop .inv .within) (c .before .before .before .before .before .before .before .before .before .before .before .before .before .before .before .before .before .before .before .before .before .before .before .loop .inv .enough) (sym (c .before .before .before .before .before .before .before .before .before .before .before .before .before .before .before .before .before .before .before .before .before .rank-of .ensures)) in
+    rw (head t (c .before .before .before .before .before .before .before .before .before .before .before .before .before .before .before .before .before .before .before .before .before .before .before), e .same, ← c .before .before .before .before .before .before .before .before .before .before .before .before .before .before .before .before .at-token .ensures) (rw (← c .before .before .before .before .before .before .before .before .before .before .before .before .before .before .before .binary .ensures, c .before .before .before .before .before .before .before .before .before .kh .given .1, ← c .before .before .before .before .before .operation .ensures) (rw (← c .before .before .before .before .make .ensures (c .before .before .before .before .before .before .before .before .before .before .before .before .before .before .before .binary .last .1 .0), c .enum-told3 .given .1)))
 
 loop-less : (t : ℕ) → binary-lts.Need-loop-less (claims t) (binary-at t) binary.Post binary-Inv-loop binary-μ-loop
 loop-less t c = let g = turn t c in omega arith
@@ -193,10 +181,10 @@ loop-less t c = let g = turn t c in omega arith
 loop-again : (t : ℕ) → binary-lts.Need-loop-again (claims t) (binary-at t) binary.Post binary-Inv-loop binary-μ-loop
 loop-again t c =
     let g = turn t c in
-    let n = next-is (c .before .before .before .before .before .before .before .before .before .before .before .before .before .before .before .before .before .before .before .before .before .before .before .before .before .before .before .before .before .before .before .before .before .before .before .before .before .before .before .before .before .before .args .tokens .now) (c .before .before .before .before .before .before .before .before .before .before .before .before .before .before .before .before .before .before .before .before .before .before .before .before .before .before .before .loop .s .current) _ _ _ (c .before .before .before .before .before .before .before .before .before .before .before .before .before .before .before .before .before .before .before .before .before .before .before .before .before .before .skip .ensures) (c .before .before .before .before .before .before .before .before .before .before .before .before .before .before .before .before .before .before .before .before .before .before .before .before .before .kind-at .ensures) (c .before .before .before .before .before .before .before .before .before .before .before .before .before .before .before .before .before .before .before .before .before .next .ensures) in
-    let e = turns-found (c .before .before .before .before .before .before .before .before .before .before .before .before .before .before .before .before .before .before .before .before .before .before .before .before .before .before .before .before .before .before .before .before .before .before .before .before .before .before .before .before .before .before .args .tokens .now) (lower (c .before .before .before .before .before .before .before .before .before .before .before .before .before .before .before .before .before .before .before .before .before .before .before .before .before .before .before .before .before .before .before .before .before .before .before .before .before .before .before .before .before .before .args .tokens .now) (c .before .before .before .before .before .before .before .before .before .before .before .before .before .before .before .before .before .before .before .before .before .before .before .before .before .before .before .before .before .before .before .before .before .before .before .before .before .before .before .before .before .before .args .levels)) (c .before .before .before .before .before .before .before .before .before .before .before .before .before .before .before .before .before .before .before .before .before .before .before .before .before .before .before .before .before .before .before .before .before .before .before .before .before .before .before .before .before .before .args .looser) (c .before .before .before .before .before .before .before .before .before .before .before .before .before .before .before .before .before .before .before .before .before .before .before .before .before .before .before .loop .left) (c .before .before .before .before .before .before .before .before .before .before .before .before .before .before .before .before .before .before .before .before .before .before .before .before .before .before .before .loop .s) (c .before .before .before .before .before .before .before .before .before .before .before .before .before .before .before .before .before .before .before .before .before .before .before .before .before .before .before .loop .errors) (c .before .before .before .before .before .before .before .before .before .before .before .before .before .before .before .before .before .before .before .before .before .before .before .before .before .before .before .loop .nodes) _ _ n (c .before .before .before .before .before .before .before .before .before .before .before .before .before .before .before .before .before .before .before .before .before .before .before .before .before .before .before .loop .inv .fuel) (c .before .before .before .before .before .before .before .before .before .before .before .before .before .before .before .before .before .before .before .before .before .before .before .before .before .before .before .loop .r) (c .before .before .before .before .before .before .before .before .before .before .before .before .before .before .before .before .before .before .before .before .before .before .before .before .rank-of .result) (c .before .before .before .before .before .before .before .before .before .before .before .before .before .before .before .before .before .before .before .before .before .before .before .if1 .left) (c .before .before .before .before .before .before .before .before .before .before .before .before .before .before .before .before .before .before .before .before .before .before .if2 .left) (c .before .before .before .before .before .before .before .before .before .before .before .before .before .before .before .before .before .before .before .before .before .before .before .before .before .before .before .loop .inv .within) (c .before .before .before .before .before .before .before .before .before .before .before .before .before .before .before .before .before .before .before .before .before .before .before .before .before .before .before .loop .inv .enough) (sym (c .before .before .before .before .before .before .before .before .before .before .before .before .before .before .before .before .before .before .before .before .before .before .before .before .rank-of .ensures)) in
+    let n = peeked (c .before .before .before .before .before .before .before .before .before .before .before .before .before .before .before .before .before .before .before .before .before .before .before .before .before .before .before .before .before .before .before .before .before .before .before .before .before .before .before .before .args .tokens .now) (c .before .before .before .before .before .before .before .before .before .before .before .before .before .before .before .before .before .before .before .before .before .before .before .before .before .loop .s .current) _ (c .before .before .before .before .before .before .before .before .before .before .before .before .before .before .before .before .before .before .before .before .before .before .before .before .peek .ensures) in
+    let e = turns-found (c .before .before .before .before .before .before .before .before .before .before .before .before .before .before .before .before .before .before .before .before .before .before .before .before .before .before .before .before .before .before .before .before .before .before .before .before .before .before .before .before .args .tokens .now) (lower (c .before .before .before .before .before .before .before .before .before .before .before .before .before .before .before .before .before .before .before .before .before .before .before .before .before .before .before .before .before .before .before .before .before .before .before .before .before .before .before .before .args .tokens .now) (c .before .before .before .before .before .before .before .before .before .before .before .before .before .before .before .before .before .before .before .before .before .before .before .before .before .before .before .before .before .before .before .before .before .before .before .before .before .before .before .before .args .levels)) (c .before .before .before .before .before .before .before .before .before .before .before .before .before .before .before .before .before .before .before .before .before .before .before .before .before .before .before .before .before .before .before .before .before .before .before .before .before .before .before .before .args .looser) (c .before .before .before .before .before .before .before .before .before .before .before .before .before .before .before .before .before .before .before .before .before .before .before .before .before .loop .left) (c .before .before .before .before .before .before .before .before .before .before .before .before .before .before .before .before .before .before .before .before .before .before .before .before .before .loop .s) (c .before .before .before .before .before .before .before .before .before .before .before .before .before .before .before .before .before .before .before .before .before .before .before .before .before .loop .errors) (c .before .before .before .before .before .before .before .before .before .before .before .before .before .before .before .before .before .before .before .before .before .before .before .before .before .loop .nodes) _ _ n (c .before .before .before .before .before .before .before .before .before .before .before .before .before .before .before .before .before .before .before .before .before .before .before .before .before .loop .inv .fuel) (c .before .before .before .before .before .before .before .before .before .before .before .before .before .before .before .before .before .before .before .before .before .before .before .before .before .loop .r) (c .before .before .before .before .before .before .before .before .before .before .before .before .before .before .before .before .before .before .before .before .before .before .before .rank-of .result) (c .before .before .before .before .before .before .before .before .before .before .before .before .before .before .before .before .before .before .before .before .before .before .if1 .left) (c .before .before .before .before .before .before .before .before .before .before .before .before .before .before .before .before .before .before .before .before .before .if2 .left) (c .before .before .before .before .before .before .before .before .before .before .before .before .before .before .before .before .before .before .before .before .before .before .before .before .before .loop .inv .within) (c .before .before .before .before .before .before .before .before .before .before .before .before .before .before .before .before .before .before .before .before .before .before .before .before .before .loop .inv .enough) (sym (c .before .before .before .before .before .before .before .before .before .before .before .before .before .before .before .before .before .before .before .before .before .before .before .rank-of .ensures)) in
     let f : suc (e .fuelled - 1) ≡ e .fuelled = omega (arith, e .enough) in
-    record { fuel = e .fuelled - 1; enough = omega (arith, e .enough); within = omega (arith, c .before .before .before .before .before .before .before .before .before .before .before .before .before .before .before .before .before .before .before .before .before .before .if2 .left, c .before .before .before .before .before .before .before .before .before .before .before .before .before .before .before .before .before .before .before .before .before .before .before .before .before .before .before .loop .inv .within); same = rw f (again t c ∙ c .before .before .before .before .before .before .before .before .before .before .before .before .before .before .before .before .before .before .before .before .before .before .before .before .before .before .before .loop .inv .same); errors = c .before .before .before .before .before .before .before .before .before .before .before .before .before .before .before .before .before .binary .kept .1 .0 ∙ c .before .before .before .before .before .before .before .before .before .before .before .before .before .before .before .before .before .before .before .before .before .before .before .before .before .before .before .loop .inv .errors; nodes = c .before .before .before .before .before .before .make .kept .0 ∙ c .before .before .before .before .before .before .before .before .before .before .before .before .before .before .before .before .before .binary .kept .1 .1 .0 ∙ c .before .before .before .before .before .before .before .before .before .before .before .before .before .before .before .before .before .before .before .before .before .before .before .before .before .before .before .loop .inv .nodes }
+    record { fuel = e .fuelled - 1; enough = omega (arith, e .enough); within = omega (arith, c .before .before .before .before .before .before .before .before .before .before .before .before .before .before .before .before .before .before .before .before .before .if2 .left, c .before .before .before .before .before .before .before .before .before .before .before .before .before .before .before .before .before .before .before .before .before .before .before .before .before .loop .inv .within); same = rw f (again t c ∙ c .before .before .before .before .before .before .before .before .before .before .before .before .before .before .before .before .before .before .before .before .before .before .before .before .before .loop .inv .same); errors = c .before .before .before .before .before .before .before .before .before .before .before .before .before .before .before .before .before .binary .kept .1 .0 ∙ c .before .before .before .before .before .before .before .before .before .before .before .before .before .before .before .before .before .before .before .before .before .before .before .before .before .loop .inv .errors; nodes = c .before .before .before .before .before .before .make .kept .0 ∙ c .before .before .before .before .before .before .before .before .before .before .before .before .before .before .before .before .before .binary .kept .1 .1 .0 ∙ c .before .before .before .before .before .before .before .before .before .before .before .before .before .before .before .before .before .before .before .before .before .before .before .before .before .loop .inv .nodes }
 
 pub binary-ok : {M : Type 1} (t : ℕ) → binary-lts.Closed (claims t) (binary-at t) binary.Post M
 binary-ok t = binary-lts.spec (claims t) (binary-at t) binary.Post
@@ -209,8 +197,7 @@ binary-ok t = binary-lts.spec (claims t) (binary-at t) binary.Post
     (same-length-2 t)
     (returns t)
     (loop-holds t)
-    (skip-requires t)
-    (kind-at-requires t)
+    (peek-requires t)
     (rank-of-requires t)
     (found-requires t)
     (same-length-3 t)
@@ -220,7 +207,6 @@ binary-ok t = binary-lts.spec (claims t) (binary-at t) binary.Post
     (same-length-5 t)
     (same-length-6 t)
     (returns-3 t)
-    (next-requires t)
     (at-token-requires t)
     (binary-requires t)
     (enum-known-kh t)

@@ -1,4 +1,4 @@
--- `call`, of the cycle.
+-- Made by tools/remake cycle grammar from tools/ans/grammar/call.txt: `call`, of the cycle.
 use mathlib.Core.Path.{_≡_, refl, sym, ap, _∙_}
 use mathlib.Core.Bool.{true, false}
 use mathlib.Core.List.{List, []}
@@ -14,7 +14,7 @@ use Rattle.parser.specs.Programs.{run}
 use Rattle.token.specs.Kind.{RightParen}
 use Rattle.parser.specs.Grammar.{lower, arguments, finishCall, access, call, callFrom}
 use Rattle.pieces.specs.Pieces.{get, callEnd}
-use Rattle.pieces.proofs.NextKind.{next-is}
+use Rattle.pieces.proofs.NextKind.{peeked}
 use Rattle.grammar.proofs.CallTurns.{call-paren, call-dot, call-brace, call-end}
 use Rattle.pieces.proofs.Turns.{not-back, ends-on, next-past}
 use Rattle.grammar.proofs.access.Reads as access
@@ -23,9 +23,7 @@ use Rattle.grammar.proofs.call.Reads as call
 use Rattle.grammar.proofs.+access+arguments+assignment+binary+block+call+class+declaration+elifs+fn_expr+fn_stmt+for_c+for_in+for_loop+func+if_stmt+let_stmt+methods+pairs+primary+ret+slice+stmt+try_catch+unary+upto+while_stmt.Lts-call as call-lts
 use Rattle.grammar.proofs.primary.Reads as primary
 use Rattle.parser.proofs.State.at_token.Reads as at-token-reads
-use Rattle.parser.proofs.kind_at.Reads as kind-at-reads
-use Rattle.parser.proofs.next.Reads as next-reads
-use Rattle.parser.proofs.skip.Reads as skip-reads
+use Rattle.parser.proofs.peek.Reads as peek-reads
 use Rattle.pieces.proofs.finish_call.Reads as finish-call-reads
 use Rattle.pieces.proofs.found.Reads as found-reads
 use Rattle.pieces.proofs.get.Reads as get-reads
@@ -33,7 +31,7 @@ use Rattle.grammar.proofs.+access+arguments+assignment+binary+block+cal
 use borrow.Author.Needs.{needs}
 
 abbrev claims : ℕ → call-lts.Claims
-claims t = (primary-below t, primary.Post, skip-reads.Asked, skip-reads.Learnt, kind-at-reads.Asked, kind-at-reads.Learnt, next-reads.Asked, next-reads.Learnt, at-token-reads.Asked, at-token-reads.Learnt, arguments-below t, arguments.Post, finish-call-reads.Asked, finish-call-reads.Learnt, get-reads.Asked, get-reads.Learnt, access-below t, access.Post, found-reads.Asked, found-reads.Learnt)
+claims t = (primary-below t, primary.Post, peek-reads.Asked, peek-reads.Learnt, at-token-reads.Asked, at-token-reads.Learnt, arguments-below t, arguments.Post, finish-call-reads.Asked, finish-call-reads.Learnt, get-reads.Asked, get-reads.Learnt, access-below t, access.Post, found-reads.Asked, found-reads.Learnt)
 
 -- the turns that are left
 abbrev onFrom : List ℕ → ℕ → ℕ → Found → State → List ℕ → List ℕ → Reply
@@ -58,48 +56,48 @@ head : (t : ℕ) (c : call-lts.At-loop (claims t) (call-at t) call.Post call-Inv
 unfolding run call
 head t c = rw (← c .before .before .before .before .before .before .before .before .before .primary .ensures, c .before .before .before .k .given .1) (sym (c .loop .inv .same))
 
-turn : (t : ℕ) (c : call-lts.After-q2 (claims t) (call-at t) call.Post call-Inv-loop call-μ-loop) → (c .before .before .before .before .before .before .before .before .before .before .before .before .before .before .before .before .before .before .before .before .before .before .before .loop .q .current < c .before .before .before .before .before .before .before .before .finish-call .result .p .current) × (c .before .before .before .before .before .before .before .before .before .before .before .before .before .before .before .before .before .before .before .before .before .before .before .loop .q .current < count (c .before .before .before .before .before .before .before .before .before .before .before .before .before .before .before .before .before .before .before .before .before .before .before .before .before .before .before .before .before .before .before .before .before .before .before .before .before .before .args .tokens .now))
+turn : (t : ℕ) (c : call-lts.After-q2 (claims t) (call-at t) call.Post call-Inv-loop call-μ-loop) → (c .before .before .before .before .before .before .before .before .before .before .before .before .before .before .before .before .before .before .before .before .before .loop .q .current < c .before .before .before .before .before .before .before .before .finish-call .result .p .current) × (c .before .before .before .before .before .before .before .before .before .before .before .before .before .before .before .before .before .before .before .before .before .loop .q .current < count (c .before .before .before .before .before .before .before .before .before .before .before .before .before .before .before .before .before .before .before .before .before .before .before .before .before .before .before .before .before .before .before .before .before .before .before .before .args .tokens .now))
 turn t c =
-    let n = next-is (c .before .before .before .before .before .before .before .before .before .before .before .before .before .before .before .before .before .before .before .before .before .before .before .before .before .before .before .before .before .before .before .before .before .before .before .before .before .before .args .tokens .now) (c .before .before .before .before .before .before .before .before .before .before .before .before .before .before .before .before .before .before .before .before .before .before .before .loop .q .current) _ _ _ (c .before .before .before .before .before .before .before .before .before .before .before .before .before .before .before .before .before .before .before .before .before .before .skip .ensures) (c .before .before .before .before .before .before .before .before .before .before .before .before .before .before .before .before .before .before .before .before .before .kind-at .ensures) (c .before .before .before .before .before .before .before .before .before .before .before .before .before .before .before .before .before .before .before .before .next .ensures) in
+    let n = peeked (c .before .before .before .before .before .before .before .before .before .before .before .before .before .before .before .before .before .before .before .before .before .before .before .before .before .before .before .before .before .before .before .before .before .before .before .before .args .tokens .now) (c .before .before .before .before .before .before .before .before .before .before .before .before .before .before .before .before .before .before .before .before .before .loop .q .current) _ (c .before .before .before .before .before .before .before .before .before .before .before .before .before .before .before .before .before .before .before .before .peek .ensures) in
     let g = next-past _ _ _ _ _ n (c .before .before .before .before .before .before .before .before .before .before .before .before .before .before .before .before .before .before .before .if1 .taken) refl refl in
     let a = ap (λ (x : State). x .current) (c .before .before .before .before .before .before .before .before .before .before .before .before .before .before .before .before .at-token .ensures) in
-    let b = not-back (c .before .before .before .before .before .before .before .before .before .before .before .before .before .before .before .before .before .before .before .before .before .before .before .before .before .before .before .before .before .before .before .before .before .before .before .before .before .before .args .tokens .now) (c .before .before .before .before .before .before .before .before .before .before .before .before .before .before .before .before .before .before .before .before .before .before .before .before .before .before .before .before .before .before .before .before .before .before .before .before .before .before .args .levels) (arguments (c .before .before .before .before .before .before .before .before .before .before .before .before .before .before .before .before .before .before .before .before .before .before .before .before .before .before .before .before .before .before .before .before .before .before .before .before .before .before .args .tokens .now) RightParen) (c .before .before .before .before .before .before .before .before .before .before .before .before .before .before .before .before .at-token .result) (c .before .before .before .before .before .before .before .before .before .before .before .before .before .before .before .arguments .result .p) _ _ _ _ _ (c .before .before .before .before .before .before .before .before .before .before .before .before .before .before .before .arguments .ensures) in
-    let d = ends-on (c .before .before .before .before .before .before .before .before .before .before .before .before .before .before .before .before .before .before .before .before .before .before .before .before .before .before .before .before .before .before .before .before .before .before .before .before .before .before .args .tokens .now) (c .before .before .before .before .before .before .before .before .before .before .before .before .before .before .before .before .before .before .before .before .before .before .before .before .before .before .before .before .before .before .before .before .before .before .before .before .before .before .args .levels) (λ e. callEnd (c .before .before .before .before .before .before .before .before .before .before .before .before .before .before .before .before .before .before .before .before .before .before .before .loop .e .node) e) (c .before .before .before .before .before .before .before .before .before .before .before .before .before .before .before .arguments .result .p) (c .before .before .before .before .before .before .before .before .finish-call .result .p) (c .before .before .before .before .before .before .before .before .before .before .before .before .before .before .before .arguments .result .got) (c .before .before .before .before .before .before .before .before .finish-call .result .got) (c .before .before .before .before .before .before .before .before .before .before .before .before .before .before .before .arguments .last .1 .0) (c .before .before .before .before .before .before .before .before .before .before .before .before .before .before .before .arguments .last .1 .1 .0) (c .before .before .before .before .before .before .before .before .finish-call .last .1 .0) (c .before .before .before .before .before .before .before .before .finish-call .last .1 .1 .0) (c .before .before .before .before .before .before .before .before .finish-call .ensures (lower (c .before .before .before .before .before .before .before .before .before .before .before .before .before .before .before .before .before .before .before .before .before .before .before .before .before .before .before .before .before .before .before .before .before .before .before .before .before .before .args .tokens .now) (c .before .before .before .before .before .before .before .before .before .before .before .before .before .before .before .before .before .before .before .before .before .before .before .before .before .before .before .before .before .before .before .before .before .before .before .before .before .before .args .levels))) in
+    let b = not-back (c .before .before .before .before .before .before .before .before .before .before .before .before .before .before .before .before .before .before .before .before .before .before .before .before .before .before .before .before .before .before .before .before .before .before .before .before .args .tokens .now) (c .before .before .before .before .before .before .before .before .before .before .before .before .before .before .before .before .before .before .before .before .before .before .before .before .before .before .before .before .before .before .before .before .before .before .before .before .args .levels) (arguments (c .before .before .before .before .before .before .before .before .before .before .before .before .before .before .before .before .before .before .before .before .before .before .before .before .before .before .before .before .before .before .before .before .before .before .before .before .args .tokens .now) RightParen) (c .before .before .before .before .before .before .before .before .before .before .before .before .before .before .before .before .at-token .result) (c .before .before .before .before .before .before .before .before .before .before .before .before .before .before .before .arguments .result .p) _ _ _ _ _ (c .before .before .before .before .before .before .before .before .before .before .before .before .before .before .before .arguments .ensures) in
+    let d = ends-on (c .before .before .before .before .before .before .before .before .before .before .before .before .before .before .before .before .before .before .before .before .before .before .before .before .before .before .before .before .before .before .before .before .before .before .before .before .args .tokens .now) (c .before .before .before .before .before .before .before .before .before .before .before .before .before .before .before .before .before .before .before .before .before .before .before .before .before .before .before .before .before .before .before .before .before .before .before .before .args .levels) (λ e. callEnd (c .before .before .before .before .before .before .before .before .before .before .before .before .before .before .before .before .before .before .before .before .before .loop .e .node) e) (c .before .before .before .before .before .before .before .before .before .before .before .before .before .before .before .arguments .result .p) (c .before .before .before .before .before .before .before .before .finish-call .result .p) (c .before .before .before .before .before .before .before .before .before .before .before .before .before .before .before .arguments .result .got) (c .before .before .before .before .before .before .before .before .finish-call .result .got) (c .before .before .before .before .before .before .before .before .before .before .before .before .before .before .before .arguments .last .1 .0) (c .before .before .before .before .before .before .before .before .before .before .before .before .before .before .before .arguments .last .1 .1 .0) (c .before .before .before .before .before .before .before .before .finish-call .last .1 .0) (c .before .before .before .before .before .before .before .before .finish-call .last .1 .1 .0) (c .before .before .before .before .before .before .before .before .finish-call .ensures (lower (c .before .before .before .before .before .before .before .before .before .before .before .before .before .before .before .before .before .before .before .before .before .before .before .before .before .before .before .before .before .before .before .before .before .before .before .before .args .tokens .now) (c .before .before .before .before .before .before .before .before .before .before .before .before .before .before .before .before .before .before .before .before .before .before .before .before .before .before .before .before .before .before .before .before .before .before .before .before .args .levels))) in
     (omega arith, g .1)
 
-again : (t : ℕ) (c : call-lts.After-q2 (claims t) (call-at t) call.Post call-Inv-loop call-μ-loop) → onFrom (c .before .before .before .before .before .before .before .before .before .before .before .before .before .before .before .before .before .before .before .before .before .before .before .before .before .before .before .before .before .before .before .before .before .before .before .before .before .before .args .tokens .now) (c .before .before .before .before .before .before .before .before .before .before .before .before .before .before .before .before .before .before .before .before .before .before .before .before .before .before .before .before .before .before .before .before .before .before .before .before .before .before .args .levels) (c .before .before .before .before .before .before .before .before .before .before .before .before .before .before .before .before .before .before .before .before .before .before .before .loop .inv .fuel) (c .before .before .kh .given .0 .0) (c .before .before .before .before .before .before .before .before .finish-call .result .p) (c .before .before .before .before .before .before .before .before .finish-call .last .1 .0) (c .before .before .before .before .before .before .before .before .finish-call .last .1 .1 .0) ≡ onFrom (c .before .before .before .before .before .before .before .before .before .before .before .before .before .before .before .before .before .before .before .before .before .before .before .before .before .before .before .before .before .before .before .before .before .before .before .before .before .before .args .tokens .now) (c .before .before .before .before .before .before .before .before .before .before .before .before .before .before .before .before .before .before .before .before .before .before .before .before .before .before .before .before .before .before .before .before .before .before .before .before .before .before .args .levels) (suc (c .before .before .before .before .before .before .before .before .before .before .before .before .before .before .before .before .before .before .before .before .before .before .before .loop .inv .fuel)) (c .before .before .before .before .before .before .before .before .before .before .before .before .before .before .before .before .before .before .before .before .before .before .before .loop .e) (c .before .before .before .before .before .before .before .before .before .before .before .before .before .before .before .before .before .before .before .before .before .before .before .loop .q) (c .before .before .before .before .before .before .before .before .before .before .before .before .before .before .before .before .before .before .before .before .before .before .before .loop .errors) (c .before .before .before .before .before .before .before .before .before .before .before .before .before .before .before .before .before .before .before .before .before .before .before .loop .nodes)
+again : (t : ℕ) (c : call-lts.After-q2 (claims t) (call-at t) call.Post call-Inv-loop call-μ-loop) → onFrom (c .before .before .before .before .before .before .before .before .before .before .before .before .before .before .before .before .before .before .before .before .before .before .before .before .before .before .before .before .before .before .before .before .before .before .before .before .args .tokens .now) (c .before .before .before .before .before .before .before .before .before .before .before .before .before .before .before .before .before .before .before .before .before .before .before .before .before .before .before .before .before .before .before .before .before .before .before .before .args .levels) (c .before .before .before .before .before .before .before .before .before .before .before .before .before .before .before .before .before .before .before .before .before .loop .inv .fuel) (c .before .before .kh .given .0 .0) (c .before .before .before .before .before .before .before .before .finish-call .result .p) (c .before .before .before .before .before .before .before .before .finish-call .last .1 .0) (c .before .before .before .before .before .before .before .before .finish-call .last .1 .1 .0) ≡ onFrom (c .before .before .before .before .before .before .before .before .before .before .before .before .before .before .before .before .before .before .before .before .before .before .before .before .before .before .before .before .before .before .before .before .before .before .before .before .args .tokens .now) (c .before .before .before .before .before .before .before .before .before .before .before .before .before .before .before .before .before .before .before .before .before .before .before .before .before .before .before .before .before .before .before .before .before .before .before .before .args .levels) (suc (c .before .before .before .before .before .before .before .before .before .before .before .before .before .before .before .before .before .before .before .before .before .loop .inv .fuel)) (c .before .before .before .before .before .before .before .before .before .before .before .before .before .before .before .before .before .before .before .before .before .loop .e) (c .before .before .before .before .before .before .before .before .before .before .before .before .before .before .before .before .before .before .before .before .before .loop .q) (c .before .before .before .before .before .before .before .before .before .before .before .before .before .before .before .before .before .before .before .before .before .loop .errors) (c .before .before .before .before .before .before .before .before .before .before .before .before .before .before .before .before .before .before .before .before .before .loop .nodes)
 unfolding run finishCall
 again t c =
-    let n = next-is (c .before .before .before .before .before .before .before .before .before .before .before .before .before .before .before .before .before .before .before .before .before .before .before .before .before .before .before .before .before .before .before .before .before .before .before .before .before .before .args .tokens .now) (c .before .before .before .before .before .before .before .before .before .before .before .before .before .before .before .before .before .before .before .before .before .before .before .loop .q .current) _ _ _ (c .before .before .before .before .before .before .before .before .before .before .before .before .before .before .before .before .before .before .before .before .before .before .skip .ensures) (c .before .before .before .before .before .before .before .before .before .before .before .before .before .before .before .before .before .before .before .before .before .kind-at .ensures) (c .before .before .before .before .before .before .before .before .before .before .before .before .before .before .before .before .before .before .before .before .next .ensures) in
-    let e = call-paren (c .before .before .before .before .before .before .before .before .before .before .before .before .before .before .before .before .before .before .before .before .before .before .before .before .before .before .before .before .before .before .before .before .before .before .before .before .before .before .args .tokens .now) (lower (c .before .before .before .before .before .before .before .before .before .before .before .before .before .before .before .before .before .before .before .before .before .before .before .before .before .before .before .before .before .before .before .before .before .before .before .before .before .before .args .tokens .now) (c .before .before .before .before .before .before .before .before .before .before .before .before .before .before .before .before .before .before .before .before .before .before .before .before .before .before .before .before .before .before .before .before .before .before .before .before .before .before .args .levels)) (c .before .before .before .before .before .before .before .before .before .before .before .before .before .before .before .before .before .before .before .before .before .before .before .loop .inv .fuel) (c .before .before .before .before .before .before .before .before .before .before .before .before .before .before .before .before .before .before .before .before .before .before .before .loop .e) (c .before .before .before .before .before .before .before .before .before .before .before .before .before .before .before .before .before .before .before .before .before .before .before .loop .q) (c .before .before .before .before .before .before .before .before .before .before .before .before .before .before .before .before .before .before .before .before .before .before .before .loop .errors) (c .before .before .before .before .before .before .before .before .before .before .before .before .before .before .before .before .before .before .before .before .before .before .before .loop .nodes) _ _ n (c .before .before .before .before .before .before .before .before .before .before .before .before .before .before .before .before .before .before .before .if1 .taken) in
-    rw (e, ← c .before .before .before .before .before .before .before .before .before .before .before .before .before .before .before .before .at-token .ensures, ← c .before .before .before .before .before .before .before .before .before .before .before .before .before .before .before .arguments .ensures) (rw (← c .before .before .before .before .before .before .before .before .finish-call .ensures (lower (c .before .before .before .before .before .before .before .before .before .before .before .before .before .before .before .before .before .before .before .before .before .before .before .before .before .before .before .before .before .before .before .before .before .before .before .before .before .before .args .tokens .now) (c .before .before .before .before .before .before .before .before .before .before .before .before .before .before .before .before .before .before .before .before .before .before .before .before .before .before .before .before .before .before .before .before .before .before .before .before .before .before .args .levels)), c .before .before .kh .given .1))
+    let n = peeked (c .before .before .before .before .before .before .before .before .before .before .before .before .before .before .before .before .before .before .before .before .before .before .before .before .before .before .before .before .before .before .before .before .before .before .before .before .args .tokens .now) (c .before .before .before .before .before .before .before .before .before .before .before .before .before .before .before .before .before .before .before .before .before .loop .q .current) _ (c .before .before .before .before .before .before .before .before .before .before .before .before .before .before .before .before .before .before .before .before .peek .ensures) in
+    let e = call-paren (c .before .before .before .before .before .before .before .before .before .before .before .before .before .before .before .before .before .before .before .before .before .before .before .before .before .before .before .before .before .before .before .before .before .before .before .before .args .tokens .now) (lower (c .before .before .before .before .before .before .before .before .before .before .before .before .before .before .before .before .before .before .before .before .before .before .before .before .before .before .before .before .before .before .before .before .before .before .before .before .args .tokens .now) (c .before .before .before .before .before .before .before .before .before .before .before .before .before .before .before .before .before .before .before .before .before .before .before .before .before .before .before .before .before .before .before .before .before .before .before .before .args .levels)) (c .before .before .before .before .before .before .before .before .before .before .before .before .before .before .before .before .before .before .before .before .before .loop .inv .fuel) (c .before .before .before .before .before .before .before .before .before .before .before .before .before .before .before .before .before .before .before .before .before .loop .e) (c .before .before .before .before .before .before .before .before .before .before .before .before .before .before .before .before .before .before .before .before .before .loop .q) (c .before .before .before .before .before .before .before .before .before .before .before .before .before .before .before .before .before .before .before .before .before .loop .errors) (c .before .before .before .before .before .before .before .before .before .before .before .before .before .before .before .before .before .before .before .before .before .loop .nodes) _ _ n (c .before .before .before .before .before .before .before .before .before .before .before .before .before .before .before .before .before .before .before .if1 .taken) in
+    rw (e, ← c .before .before .before .before .before .before .before .before .before .before .before .before .before .before .before .before .at-token .ensures, ← c .before .before .before .before .before .before .before .before .before .before .before .before .before .before .before .arguments .ensures) (rw (← c .before .before .before .before .before .before .before .before .finish-call .ensures (lower (c .before .before .before .before .before .before .before .before .before .before .before .before .before .before .before .before .before .before .before .before .before .before .before .before .before .before .before .before .before .before .before .before .before .before .before .before .args .tokens .now) (c .before .before .before .before .before .before .before .before .before .before .before .before .before .before .before .before .before .before .before .before .before .before .before .before .before .before .before .before .before .before .before .before .before .before .before .before .args .levels)), c .before .before .kh .given .1))
 
-turn-2 : (t : ℕ) (c : call-lts.After-q3 (claims t) (call-at t) call.Post call-Inv-loop call-μ-loop) → (c .before .before .before .before .before .before .before .before .before .before .before .before .before .before .before .before .before .loop .q .current < c .before .before .before .before .before .before .before .before .get .result .p .current) × (c .before .before .before .before .before .before .before .before .before .before .before .before .before .before .before .before .before .loop .q .current < count (c .before .before .before .before .before .before .before .before .before .before .before .before .before .before .before .before .before .before .before .before .before .before .before .before .before .before .before .before .before .before .before .before .args .tokens .now))
+turn-2 : (t : ℕ) (c : call-lts.After-q3 (claims t) (call-at t) call.Post call-Inv-loop call-μ-loop) → (c .before .before .before .before .before .before .before .before .before .before .before .before .before .before .before .loop .q .current < c .before .before .before .before .before .before .before .before .get .result .p .current) × (c .before .before .before .before .before .before .before .before .before .before .before .before .before .before .before .loop .q .current < count (c .before .before .before .before .before .before .before .before .before .before .before .before .before .before .before .before .before .before .before .before .before .before .before .before .before .before .before .before .before .before .args .tokens .now))
 turn-2 t c =
-    let n = next-is (c .before .before .before .before .before .before .before .before .before .before .before .before .before .before .before .before .before .before .before .before .before .before .before .before .before .before .before .before .before .before .before .before .args .tokens .now) (c .before .before .before .before .before .before .before .before .before .before .before .before .before .before .before .before .before .loop .q .current) _ _ _ (c .before .before .before .before .before .before .before .before .before .before .before .before .before .before .before .before .skip .ensures) (c .before .before .before .before .before .before .before .before .before .before .before .before .before .before .before .kind-at .ensures) (c .before .before .before .before .before .before .before .before .before .before .before .before .before .before .next .ensures) in
+    let n = peeked (c .before .before .before .before .before .before .before .before .before .before .before .before .before .before .before .before .before .before .before .before .before .before .before .before .before .before .before .before .before .before .args .tokens .now) (c .before .before .before .before .before .before .before .before .before .before .before .before .before .before .before .loop .q .current) _ (c .before .before .before .before .before .before .before .before .before .before .before .before .before .before .peek .ensures) in
     let g = next-past _ _ _ _ _ n (c .before .before .before .before .before .before .before .before .before .before .before .before .if2 .taken) refl refl in
     let a = ap (λ (x : State). x .current) (c .before .before .before .before .before .before .before .before .before .at-token2 .ensures) in
-    let b = not-back (c .before .before .before .before .before .before .before .before .before .before .before .before .before .before .before .before .before .before .before .before .before .before .before .before .before .before .before .before .before .before .before .before .args .tokens .now) (c .before .before .before .before .before .before .before .before .before .before .before .before .before .before .before .before .before .before .before .before .before .before .before .before .before .before .before .before .before .before .before .before .args .levels) (get (c .before .before .before .before .before .before .before .before .before .before .before .before .before .before .before .before .before .loop .e .node)) _ _ _ _ _ _ _ (c .before .before .before .before .before .before .before .before .get .ensures (lower (c .before .before .before .before .before .before .before .before .before .before .before .before .before .before .before .before .before .before .before .before .before .before .before .before .before .before .before .before .before .before .before .before .args .tokens .now) (c .before .before .before .before .before .before .before .before .before .before .before .before .before .before .before .before .before .before .before .before .before .before .before .before .before .before .before .before .before .before .before .before .args .levels))) in
+    let b = not-back (c .before .before .before .before .before .before .before .before .before .before .before .before .before .before .before .before .before .before .before .before .before .before .before .before .before .before .before .before .before .before .args .tokens .now) (c .before .before .before .before .before .before .before .before .before .before .before .before .before .before .before .before .before .before .before .before .before .before .before .before .before .before .before .before .before .before .args .levels) (get (c .before .before .before .before .before .before .before .before .before .before .before .before .before .before .before .loop .e .node)) _ _ _ _ _ _ _ (c .before .before .before .before .before .before .before .before .get .ensures (lower (c .before .before .before .before .before .before .before .before .before .before .before .before .before .before .before .before .before .before .before .before .before .before .before .before .before .before .before .before .before .before .args .tokens .now) (c .before .before .before .before .before .before .before .before .before .before .before .before .before .before .before .before .before .before .before .before .before .before .before .before .before .before .before .before .before .before .args .levels))) in
     (omega arith, g .1)
 
-again-2 : (t : ℕ) (c : call-lts.After-q3 (claims t) (call-at t) call.Post call-Inv-loop call-μ-loop) → onFrom (c .before .before .before .before .before .before .before .before .before .before .before .before .before .before .before .before .before .before .before .before .before .before .before .before .before .before .before .before .before .before .before .before .args .tokens .now) (c .before .before .before .before .before .before .before .before .before .before .before .before .before .before .before .before .before .before .before .before .before .before .before .before .before .before .before .before .before .before .before .before .args .levels) (c .before .before .before .before .before .before .before .before .before .before .before .before .before .before .before .before .before .loop .inv .fuel) (c .before .before .kh2 .given .0 .0) (c .before .before .before .before .before .before .before .before .get .result .p) (c .before .before .before .before .before .before .before .before .get .last .1 .0) (c .before .before .before .before .before .before .before .before .get .last .1 .1 .0) ≡ onFrom (c .before .before .before .before .before .before .before .before .before .before .before .before .before .before .before .before .before .before .before .before .before .before .before .before .before .before .before .before .before .before .before .before .args .tokens .now) (c .before .before .before .before .before .before .before .before .before .before .before .before .before .before .before .before .before .before .before .before .before .before .before .before .before .before .before .before .before .before .before .before .args .levels) (suc (c .before .before .before .before .before .before .before .before .before .before .before .before .before .before .before .before .before .loop .inv .fuel)) (c .before .before .before .before .before .before .before .before .before .before .before .before .before .before .before .before .before .loop .e) (c .before .before .before .before .before .before .before .before .before .before .before .before .before .before .before .before .before .loop .q) (c .before .before .before .before .before .before .before .before .before .before .before .before .before .before .before .before .before .loop .errors) (c .before .before .before .before .before .before .before .before .before .before .before .before .before .before .before .before .before .loop .nodes)
+again-2 : (t : ℕ) (c : call-lts.After-q3 (claims t) (call-at t) call.Post call-Inv-loop call-μ-loop) → onFrom (c .before .before .before .before .before .before .before .before .before .before .before .before .before .before .before .before .before .before .before .before .before .before .before .before .before .before .before .before .before .before .args .tokens .now) (c .before .before .before .before .before .before .before .before .before .before .before .before .before .before .before .before .before .before .before .before .before .before .before .before .before .before .before .before .before .before .args .levels) (c .before .before .before .before .before .before .before .before .before .before .before .before .before .before .before .loop .inv .fuel) (c .before .before .kh2 .given .0 .0) (c .before .before .before .before .before .before .before .before .get .result .p) (c .before .before .before .before .before .before .before .before .get .last .1 .0) (c .before .before .before .before .before .before .before .before .get .last .1 .1 .0) ≡ onFrom (c .before .before .before .before .before .before .before .before .before .before .before .before .before .before .before .before .before .before .before .before .before .before .before .before .before .before .before .before .before .before .args .tokens .now) (c .before .before .before .before .before .before .before .before .before .before .before .before .before .before .before .before .before .before .before .before .before .before .before .before .before .before .before .before .before .before .args .levels) (suc (c .before .before .before .before .before .before .before .before .before .before .before .before .before .before .before .loop .inv .fuel)) (c .before .before .before .before .before .before .before .before .before .before .before .before .before .before .before .loop .e) (c .before .before .before .before .before .before .before .before .before .before .before .before .before .before .before .loop .q) (c .before .before .before .before .before .before .before .before .before .before .before .before .before .before .before .loop .errors) (c .before .before .before .before .before .before .before .before .before .before .before .before .before .before .before .loop .nodes)
 again-2 t c =
-    let n = next-is (c .before .before .before .before .before .before .before .before .before .before .before .before .before .before .before .before .before .before .before .before .before .before .before .before .before .before .before .before .before .before .before .before .args .tokens .now) (c .before .before .before .before .before .before .before .before .before .before .before .before .before .before .before .before .before .loop .q .current) _ _ _ (c .before .before .before .before .before .before .before .before .before .before .before .before .before .before .before .before .skip .ensures) (c .before .before .before .before .before .before .before .before .before .before .before .before .before .before .before .kind-at .ensures) (c .before .before .before .before .before .before .before .before .before .before .before .before .before .before .next .ensures) in
-    let e = call-dot (c .before .before .before .before .before .before .before .before .before .before .before .before .before .before .before .before .before .before .before .before .before .before .before .before .before .before .before .before .before .before .before .before .args .tokens .now) (lower (c .before .before .before .before .before .before .before .before .before .before .before .before .before .before .before .before .before .before .before .before .before .before .before .before .before .before .before .before .before .before .before .before .args .tokens .now) (c .before .before .before .before .before .before .before .before .before .before .before .before .before .before .before .before .before .before .before .before .before .before .before .before .before .before .before .before .before .before .before .before .args .levels)) (c .before .before .before .before .before .before .before .before .before .before .before .before .before .before .before .before .before .loop .inv .fuel) (c .before .before .before .before .before .before .before .before .before .before .before .before .before .before .before .before .before .loop .e) (c .before .before .before .before .before .before .before .before .before .before .before .before .before .before .before .before .before .loop .q) (c .before .before .before .before .before .before .before .before .before .before .before .before .before .before .before .before .before .loop .errors) (c .before .before .before .before .before .before .before .before .before .before .before .before .before .before .before .before .before .loop .nodes) _ _ n (c .before .before .before .before .before .before .before .before .before .before .before .before .if2 .taken) in
-    rw (e, ← c .before .before .before .before .before .before .before .before .before .at-token2 .ensures, ← c .before .before .before .before .before .before .before .before .get .ensures (lower (c .before .before .before .before .before .before .before .before .before .before .before .before .before .before .before .before .before .before .before .before .before .before .before .before .before .before .before .before .before .before .before .before .args .tokens .now) (c .before .before .before .before .before .before .before .before .before .before .before .before .before .before .before .before .before .before .before .before .before .before .before .before .before .before .before .before .before .before .before .before .args .levels))) (rw (c .before .before .kh2 .given .1))
+    let n = peeked (c .before .before .before .before .before .before .before .before .before .before .before .before .before .before .before .before .before .before .before .before .before .before .before .before .before .before .before .before .before .before .args .tokens .now) (c .before .before .before .before .before .before .before .before .before .before .before .before .before .before .before .loop .q .current) _ (c .before .before .before .before .before .before .before .before .before .before .before .before .before .before .peek .ensures) in
+    let e = call-dot (c .before .before .before .before .before .before .before .before .before .before .before .before .before .before .before .before .before .before .before .before .before .before .before .before .before .before .before .before .before .before .args .tokens .now) (lower (c .before .before .before .before .before .before .before .before .before .before .before .before .before .before .before .before .before .before .before .before .before .before .before .before .before .before .before .before .before .before .args .tokens .now) (c .before .before .before .before .before .before .before .before .before .before .before .before .before .before .before .before .before .before .before .before .before .before .before .before .before .before .before .before .before .before .args .levels)) (c .before .before .before .before .before .before .before .before .before .before .before .before .before .before .before .loop .inv .fuel) (c .before .before .before .before .before .before .before .before .before .before .before .before .before .before .before .loop .e) (c .before .before .before .before .before .before .before .before .before .before .before .before .before .before .before .loop .q) (c .before .before .before .before .before .before .before .before .before .before .before .before .before .before .before .loop .errors) (c .before .before .before .before .before .before .before .before .before .before .before .before .before .before .before .loop .nodes) _ _ n (c .before .before .before .before .before .before .before .before .before .before .before .before .if2 .taken) in
+    rw (e, ← c .before .before .before .before .before .before .before .before .before .at-token2 .ensures, ← c .before .before .before .before .before .before .before .before .get .ensures (lower (c .before .before .before .before .before .before .before .before .before .before .before .before .before .before .before .before .before .before .before .before .before .before .before .before .before .before .before .before .before .before .args .tokens .now) (c .before .before .before .before .before .before .before .before .before .before .before .before .before .before .before .before .before .before .before .before .before .before .before .before .before .before .before .before .before .before .args .levels))) (rw (c .before .before .kh2 .given .1))
 
-turn-3 : (t : ℕ) (c : call-lts.After-q4 (claims t) (call-at t) call.Post call-Inv-loop call-μ-loop) → (c .before .before .before .before .before .before .before .before .before .before .before .before .before .before .before .before .before .before .loop .q .current < c .before .before .before .before .before .before .before .before .access .result .p .current) × (c .before .before .before .before .before .before .before .before .before .before .before .before .before .before .before .before .before .before .loop .q .current < count (c .before .before .before .before .before .before .before .before .before .before .before .before .before .before .before .before .before .before .before .before .before .before .before .before .before .before .before .before .before .before .before .before .before .args .tokens .now))
+turn-3 : (t : ℕ) (c : call-lts.After-q4 (claims t) (call-at t) call.Post call-Inv-loop call-μ-loop) → (c .before .before .before .before .before .before .before .before .before .before .before .before .before .before .before .before .loop .q .current < c .before .before .before .before .before .before .before .before .access .result .p .current) × (c .before .before .before .before .before .before .before .before .before .before .before .before .before .before .before .before .loop .q .current < count (c .before .before .before .before .before .before .before .before .before .before .before .before .before .before .before .before .before .before .before .before .before .before .before .before .before .before .before .before .before .before .before .args .tokens .now))
 turn-3 t c =
-    let n = next-is (c .before .before .before .before .before .before .before .before .before .before .before .before .before .before .before .before .before .before .before .before .before .before .before .before .before .before .before .before .before .before .before .before .before .args .tokens .now) (c .before .before .before .before .before .before .before .before .before .before .before .before .before .before .before .before .before .before .loop .q .current) _ _ _ (c .before .before .before .before .before .before .before .before .before .before .before .before .before .before .before .before .before .skip .ensures) (c .before .before .before .before .before .before .before .before .before .before .before .before .before .before .before .before .kind-at .ensures) (c .before .before .before .before .before .before .before .before .before .before .before .before .before .before .before .next .ensures) in
+    let n = peeked (c .before .before .before .before .before .before .before .before .before .before .before .before .before .before .before .before .before .before .before .before .before .before .before .before .before .before .before .before .before .before .before .args .tokens .now) (c .before .before .before .before .before .before .before .before .before .before .before .before .before .before .before .before .loop .q .current) _ (c .before .before .before .before .before .before .before .before .before .before .before .before .before .before .before .peek .ensures) in
     let g = next-past _ _ _ _ _ n (c .before .before .before .before .before .before .before .before .before .before .before .before .if3 .taken) refl refl in
     let a = ap (λ (x : State). x .current) (c .before .before .before .before .before .before .before .before .before .at-token3 .ensures) in
-    let b = not-back (c .before .before .before .before .before .before .before .before .before .before .before .before .before .before .before .before .before .before .before .before .before .before .before .before .before .before .before .before .before .before .before .before .before .args .tokens .now) (c .before .before .before .before .before .before .before .before .before .before .before .before .before .before .before .before .before .before .before .before .before .before .before .before .before .before .before .before .before .before .before .before .before .args .levels) (access (c .before .before .before .before .before .before .before .before .before .before .before .before .before .before .before .before .before .before .before .before .before .before .before .before .before .before .before .before .before .before .before .before .before .args .tokens .now) (c .before .before .before .before .before .before .before .before .before .before .before .before .before .before .before .before .before .before .loop .e) (c .before .before .before .before .before .before .before .before .before .before .before .before .before .before .before .next .result)) _ _ _ _ _ _ _ (c .before .before .before .before .before .before .before .before .access .ensures) in
+    let b = not-back (c .before .before .before .before .before .before .before .before .before .before .before .before .before .before .before .before .before .before .before .before .before .before .before .before .before .before .before .before .before .before .before .args .tokens .now) (c .before .before .before .before .before .before .before .before .before .before .before .before .before .before .before .before .before .before .before .before .before .before .before .before .before .before .before .before .before .before .before .args .levels) (access (c .before .before .before .before .before .before .before .before .before .before .before .before .before .before .before .before .before .before .before .before .before .before .before .before .before .before .before .before .before .before .before .args .tokens .now) (c .before .before .before .before .before .before .before .before .before .before .before .before .before .before .before .before .loop .e) (c .before .before .before .before .before .before .before .before .before .before .before .before .before .before .before .peek .result .past)) _ _ _ _ _ _ _ (c .before .before .before .before .before .before .before .before .access .ensures) in
     (omega arith, g .1)
 
-again-3 : (t : ℕ) (c : call-lts.After-q4 (claims t) (call-at t) call.Post call-Inv-loop call-μ-loop) → onFrom (c .before .before .before .before .before .before .before .before .before .before .before .before .before .before .before .before .before .before .before .before .before .before .before .before .before .before .before .before .before .before .before .before .before .args .tokens .now) (c .before .before .before .before .before .before .before .before .before .before .before .before .before .before .before .before .before .before .before .before .before .before .before .before .before .before .before .before .before .before .before .before .before .args .levels) (c .before .before .before .before .before .before .before .before .before .before .before .before .before .before .before .before .before .before .loop .inv .fuel) (c .before .before .kh3 .given .0 .0) (c .before .before .before .before .before .before .before .before .access .result .p) (c .before .before .before .before .before .before .before .before .access .last .1 .0) (c .before .before .before .before .before .before .before .before .access .last .1 .1 .0) ≡ onFrom (c .before .before .before .before .before .before .before .before .before .before .before .before .before .before .before .before .before .before .before .before .before .before .before .before .before .before .before .before .before .before .before .before .before .args .tokens .now) (c .before .before .before .before .before .before .before .before .before .before .before .before .before .before .before .before .before .before .before .before .before .before .before .before .before .before .before .before .before .before .before .before .before .args .levels) (suc (c .before .before .before .before .before .before .before .before .before .before .before .before .before .before .before .before .before .before .loop .inv .fuel)) (c .before .before .before .before .before .before .before .before .before .before .before .before .before .before .before .before .before .before .loop .e) (c .before .before .before .before .before .before .before .before .before .before .before .before .before .before .before .before .before .before .loop .q) (c .before .before .before .before .before .before .before .before .before .before .before .before .before .before .before .before .before .before .loop .errors) (c .before .before .before .before .before .before .before .before .before .before .before .before .before .before .before .before .before .before .loop .nodes)
+again-3 : (t : ℕ) (c : call-lts.After-q4 (claims t) (call-at t) call.Post call-Inv-loop call-μ-loop) → onFrom (c .before .before .before .before .before .before .before .before .before .before .before .before .before .before .before .before .before .before .before .before .before .before .before .before .before .before .before .before .before .before .before .args .tokens .now) (c .before .before .before .before .before .before .before .before .before .before .before .before .before .before .before .before .before .before .before .before .before .before .before .before .before .before .before .before .before .before .before .args .levels) (c .before .before .before .before .before .before .before .before .before .before .before .before .before .before .before .before .loop .inv .fuel) (c .before .before .kh3 .given .0 .0) (c .before .before .before .before .before .before .before .before .access .result .p) (c .before .before .before .before .before .before .before .before .access .last .1 .0) (c .before .before .before .before .before .before .before .before .access .last .1 .1 .0) ≡ onFrom (c .before .before .before .before .before .before .before .before .before .before .before .before .before .before .before .before .before .before .before .before .before .before .before .before .before .before .before .before .before .before .before .args .tokens .now) (c .before .before .before .before .before .before .before .before .before .before .before .before .before .before .before .before .before .before .before .before .before .before .before .before .before .before .before .before .before .before .before .args .levels) (suc (c .before .before .before .before .before .before .before .before .before .before .before .before .before .before .before .before .loop .inv .fuel)) (c .before .before .before .before .before .before .before .before .before .before .before .before .before .before .before .before .loop .e) (c .before .before .before .before .before .before .before .before .before .before .before .before .before .before .before .before .loop .q) (c .before .before .before .before .before .before .before .before .before .before .before .before .before .before .before .before .loop .errors) (c .before .before .before .before .before .before .before .before .before .before .before .before .before .before .before .before .loop .nodes)
 again-3 t c =
-    let n = next-is (c .before .before .before .before .before .before .before .before .before .before .before .before .before .before .before .before .before .before .before .before .before .before .before .before .before .before .before .before .before .before .before .before .before .args .tokens .now) (c .before .before .before .before .before .before .before .before .before .before .before .before .before .before .before .before .before .before .loop .q .current) _ _ _ (c .before .before .before .before .before .before .before .before .before .before .before .before .before .before .before .before .before .skip .ensures) (c .before .before .before .before .before .before .before .before .before .before .before .before .before .before .before .before .kind-at .ensures) (c .before .before .before .before .before .before .before .before .before .before .before .before .before .before .before .next .ensures) in
-    let e = call-brace (c .before .before .before .before .before .before .before .before .before .before .before .before .before .before .before .before .before .before .before .before .before .before .before .before .before .before .before .before .before .before .before .before .before .args .tokens .now) (lower (c .before .before .before .before .before .before .before .before .before .before .before .before .before .before .before .before .before .before .before .before .before .before .before .before .before .before .before .before .before .before .before .before .before .args .tokens .now) (c .before .before .before .before .before .before .before .before .before .before .before .before .before .before .before .before .before .before .before .before .before .before .before .before .before .before .before .before .before .before .before .before .before .args .levels)) (c .before .before .before .before .before .before .before .before .before .before .before .before .before .before .before .before .before .before .loop .inv .fuel) (c .before .before .before .before .before .before .before .before .before .before .before .before .before .before .before .before .before .before .loop .e) (c .before .before .before .before .before .before .before .before .before .before .before .before .before .before .before .before .before .before .loop .q) (c .before .before .before .before .before .before .before .before .before .before .before .before .before .before .before .before .before .before .loop .errors) (c .before .before .before .before .before .before .before .before .before .before .before .before .before .before .before .before .before .before .loop .nodes) _ _ n (c .before .before .before .before .before .before .before .before .before .before .before .before .if3 .taken) in
+    let n = peeked (c .before .before .before .before .before .before .before .before .before .before .before .before .before .before .before .before .before .before .before .before .before .before .before .before .before .before .before .before .before .before .before .args .tokens .now) (c .before .before .before .before .before .before .before .before .before .before .before .before .before .before .before .before .loop .q .current) _ (c .before .before .before .before .before .before .before .before .before .before .before .before .before .before .before .peek .ensures) in
+    let e = call-brace (c .before .before .before .before .before .before .before .before .before .before .before .before .before .before .before .before .before .before .before .before .before .before .before .before .before .before .before .before .before .before .before .args .tokens .now) (lower (c .before .before .before .before .before .before .before .before .before .before .before .before .before .before .before .before .before .before .before .before .before .before .before .before .before .before .before .before .before .before .before .args .tokens .now) (c .before .before .before .before .before .before .before .before .before .before .before .before .before .before .before .before .before .before .before .before .before .before .before .before .before .before .before .before .before .before .before .args .levels)) (c .before .before .before .before .before .before .before .before .before .before .before .before .before .before .before .before .loop .inv .fuel) (c .before .before .before .before .before .before .before .before .before .before .before .before .before .before .before .before .loop .e) (c .before .before .before .before .before .before .before .before .before .before .before .before .before .before .before .before .loop .q) (c .before .before .before .before .before .before .before .before .before .before .before .before .before .before .before .before .loop .errors) (c .before .before .before .before .before .before .before .before .before .before .before .before .before .before .before .before .loop .nodes) _ _ n (c .before .before .before .before .before .before .before .before .before .before .before .before .if3 .taken) in
     rw (e, ← c .before .before .before .before .before .before .before .before .before .at-token3 .ensures, ← c .before .before .before .before .before .before .before .before .access .ensures) (rw (c .before .before .kh3 .given .1))
 
 primary-requires : (t : ℕ) → call-lts.Need-primary-requires (claims t) (call-at t) call.Post call-Inv-loop call-μ-loop
@@ -124,20 +122,14 @@ returns t c = rw (← c .before .before .before .before .before .before .primary
 loop-holds : (t : ℕ) → call-lts.Need-loop-holds (claims t) (call-at t) call.Post call-Inv-loop call-μ-loop
 loop-holds t c = record { fuel = count (c .before .before .before .before .before .before .before .before .before .before .before .before .before .before .args .tokens .now); enough = omega arith; same = refl; errors = refl; nodes = refl }
 
-skip-requires : (t : ℕ) → call-lts.Need-skip-requires (claims t) (call-at t) call.Post call-Inv-loop call-μ-loop
-skip-requires t c κs = search needs
-
-kind-at-requires : (t : ℕ) → call-lts.Need-kind-at-requires (claims t) (call-at t) call.Post call-Inv-loop call-μ-loop
-kind-at-requires t c κs = search needs
-
-next-requires : (t : ℕ) → call-lts.Need-next-requires (claims t) (call-at t) call.Post call-Inv-loop call-μ-loop
-next-requires t c κs = search needs
+peek-requires : (t : ℕ) → call-lts.Need-peek-requires (claims t) (call-at t) call.Post call-Inv-loop call-μ-loop
+peek-requires t c κs = search needs
 
 at-token-requires : (t : ℕ) → call-lts.Need-at-token-requires (claims t) (call-at t) call.Post call-Inv-loop call-μ-loop
 at-token-requires t c κs = search needs
 
 arguments-requires : (t : ℕ) → call-lts.Need-arguments-requires (claims t) (call-at t) call.Post call-Inv-loop call-μ-loop
-arguments-requires t c κs = omega (arith, c .before .before .before .before .before .before .before .before .before .before .before .before .before .before .before .before .before .before .before .before .before .before .pre)
+arguments-requires t c κs = omega (arith, c .before .before .before .before .before .before .before .before .before .before .before .before .before .before .before .before .before .before .before .before .pre)
 
 finish-call-requires : (t : ℕ) → call-lts.Need-finish-call-requires (claims t) (call-at t) call.Post call-Inv-loop call-μ-loop
 finish-call-requires t c κs = search needs
@@ -149,17 +141,17 @@ enum-told-2 : (t : ℕ) → call-lts.Need-enum-told-2 (claims t) (call-at t) cal
 enum-told-2 t c = search needs
 
 same-length-3 : (t : ℕ) → call-lts.Need-same-length-3 (claims t) (call-at t) call.Post call-Inv-loop call-μ-loop
-same-length-3 t c = c .before .before .before .before .before .before .finish-call .kept .1 .0 ∙ c .before .before .before .before .before .before .before .before .before .before .before .before .before .arguments .kept .1 .0 ∙ c .before .before .before .before .before .before .before .before .before .before .before .before .before .before .before .before .before .before .before .before .before .loop .inv .errors ∙ c .before .before .before .before .before .before .before .before .before .before .before .before .before .before .before .before .before .before .before .before .before .before .before .before .before .before .before .before .before .before .primary .kept .1 .0
+same-length-3 t c = c .before .before .before .before .before .before .finish-call .kept .1 .0 ∙ c .before .before .before .before .before .before .before .before .before .before .before .before .before .arguments .kept .1 .0 ∙ c .before .before .before .before .before .before .before .before .before .before .before .before .before .before .before .before .before .before .before .loop .inv .errors ∙ c .before .before .before .before .before .before .before .before .before .before .before .before .before .before .before .before .before .before .before .before .before .before .before .before .before .before .before .before .primary .kept .1 .0
 
 same-length-4 : (t : ℕ) → call-lts.Need-same-length-4 (claims t) (call-at t) call.Post call-Inv-loop call-μ-loop
-same-length-4 t c = c .before .before .before .before .before .before .finish-call .kept .1 .1 .0 ∙ c .before .before .before .before .before .before .before .before .before .before .before .before .before .arguments .kept .1 .1 .0 ∙ c .before .before .before .before .before .before .before .before .before .before .before .before .before .before .before .before .before .before .before .before .before .loop .inv .nodes ∙ c .before .before .before .before .before .before .before .before .before .before .before .before .before .before .before .before .before .before .before .before .before .before .before .before .before .before .before .before .before .before .primary .kept .1 .1 .0
+same-length-4 t c = c .before .before .before .before .before .before .finish-call .kept .1 .1 .0 ∙ c .before .before .before .before .before .before .before .before .before .before .before .before .before .arguments .kept .1 .1 .0 ∙ c .before .before .before .before .before .before .before .before .before .before .before .before .before .before .before .before .before .before .before .loop .inv .nodes ∙ c .before .before .before .before .before .before .before .before .before .before .before .before .before .before .before .before .before .before .before .before .before .before .before .before .before .before .before .before .primary .kept .1 .1 .0
 
 returns-2 : (t : ℕ) → call-lts.Need-returns-2 (claims t) (call-at t) call.Post call-Inv-loop call-μ-loop
 unfolding run finishCall
 returns-2 t c =
-    let n = next-is (c .before .before .before .before .before .before .before .before .before .before .before .before .before .before .before .before .before .before .before .before .before .before .before .before .before .before .before .before .before .before .before .before .before .before .before .before .args .tokens .now) (c .before .before .before .before .before .before .before .before .before .before .before .before .before .before .before .before .before .before .before .before .before .loop .q .current) _ _ _ (c .before .before .before .before .before .before .before .before .before .before .before .before .before .before .before .before .before .before .before .before .skip .ensures) (c .before .before .before .before .before .before .before .before .before .before .before .before .before .before .before .before .before .before .before .kind-at .ensures) (c .before .before .before .before .before .before .before .before .before .before .before .before .before .before .before .before .before .before .next .ensures) in
-    let e = call-paren (c .before .before .before .before .before .before .before .before .before .before .before .before .before .before .before .before .before .before .before .before .before .before .before .before .before .before .before .before .before .before .before .before .before .before .before .before .args .tokens .now) (lower (c .before .before .before .before .before .before .before .before .before .before .before .before .before .before .before .before .before .before .before .before .before .before .before .before .before .before .before .before .before .before .before .before .before .before .before .before .args .tokens .now) (c .before .before .before .before .before .before .before .before .before .before .before .before .before .before .before .before .before .before .before .before .before .before .before .before .before .before .before .before .before .before .before .before .before .before .before .before .args .levels)) (c .before .before .before .before .before .before .before .before .before .before .before .before .before .before .before .before .before .before .before .before .before .loop .inv .fuel) (c .before .before .before .before .before .before .before .before .before .before .before .before .before .before .before .before .before .before .before .before .before .loop .e) (c .before .before .before .before .before .before .before .before .before .before .before .before .before .before .before .before .before .before .before .before .before .loop .q) (c .before .before .before .before .before .before .before .before .before .before .before .before .before .before .before .before .before .before .before .before .before .loop .errors) (c .before .before .before .before .before .before .before .before .before .before .before .before .before .before .before .before .before .before .before .before .before .loop .nodes) _ _ n (c .before .before .before .before .before .before .before .before .before .before .before .before .before .before .before .before .before .if1 .taken) in
-    rw (head t (c .before .before .before .before .before .before .before .before .before .before .before .before .before .before .before .before .before .before .before .before .before), e, ← c .before .before .before .before .before .before .before .before .before .before .before .before .before .before .at-token .ensures) (rw (← c .before .before .before .before .before .before .before .before .before .before .before .before .before .arguments .ensures, ← c .before .before .before .before .before .before .finish-call .ensures (lower (c .before .before .before .before .before .before .before .before .before .before .before .before .before .before .before .before .before .before .before .before .before .before .before .before .before .before .before .before .before .before .before .before .before .before .before .before .args .tokens .now) (c .before .before .before .before .before .before .before .before .before .before .before .before .before .before .before .before .before .before .before .before .before .before .before .before .before .before .before .before .before .before .before .before .before .before .before .before .args .levels)), c .enum-told2 .given .1))
+    let n = peeked (c .before .before .before .before .before .before .before .before .before .before .before .before .before .before .before .before .before .before .before .before .before .before .before .before .before .before .before .before .before .before .before .before .before .before .args .tokens .now) (c .before .before .before .before .before .before .before .before .before .before .before .before .before .before .before .before .before .before .before .loop .q .current) _ (c .before .before .before .before .before .before .before .before .before .before .before .before .before .before .before .before .before .before .peek .ensures) in
+    let e = call-paren (c .before .before .before .before .before .before .before .before .before .before .before .before .before .before .before .before .before .before .before .before .before .before .before .before .before .before .before .before .before .before .before .before .before .before .args .tokens .now) (lower (c .before .before .before .before .before .before .before .before .before .before .before .before .before .before .before .before .before .before .before .before .before .before .before .before .before .before .before .before .before .before .before .before .before .before .args .tokens .now) (c .before .before .before .before .before .before .before .before .before .before .before .before .before .before .before .before .before .before .before .before .before .before .before .before .before .before .before .before .before .before .before .before .before .before .args .levels)) (c .before .before .before .before .before .before .before .before .before .before .before .before .before .before .before .before .before .before .before .loop .inv .fuel) (c .before .before .before .before .before .before .before .before .before .before .before .before .before .before .before .before .before .before .before .loop .e) (c .before .before .before .before .before .before .before .before .before .before .before .before .before .before .before .before .before .before .before .loop .q) (c .before .before .before .before .before .before .before .before .before .before .before .before .before .before .before .before .before .before .before .loop .errors) (c .before .before .before .before .before .before .before .before .before .before .before .before .before .before .before .before .before .before .before .loop .nodes) _ _ n (c .before .before .before .before .before .before .before .before .before .before .before .before .before .before .before .before .before .if1 .taken) in
+    rw (head t (c .before .before .before .before .before .before .before .before .before .before .before .before .before .before .before .before .before .before .before), e, ← c .before .before .before .before .before .before .before .before .before .before .before .before .before .before .at-token .ensures) (rw (← c .before .before .before .before .before .before .before .before .before .before .before .before .before .arguments .ensures, ← c .before .before .before .before .before .before .finish-call .ensures (lower (c .before .before .before .before .before .before .before .before .before .before .before .before .before .before .before .before .before .before .before .before .before .before .before .before .before .before .before .before .before .before .before .before .before .before .args .tokens .now) (c .before .before .before .before .before .before .before .before .before .before .before .before .before .before .before .before .before .before .before .before .before .before .before .before .before .before .before .before .before .before .before .before .before .before .args .levels)), c .enum-told2 .given .1))
 
 loop-less : (t : ℕ) → call-lts.Need-loop-less (claims t) (call-at t) call.Post call-Inv-loop call-μ-loop
 loop-less t c = let g = turn t c in omega arith
@@ -167,8 +159,8 @@ loop-less t c = let g = turn t c in omega arith
 loop-again : (t : ℕ) → call-lts.Need-loop-again (claims t) (call-at t) call.Post call-Inv-loop call-μ-loop
 loop-again t c =
     let g = turn t c in
-    let f : suc (c .before .before .before .before .before .before .before .before .before .before .before .before .before .before .before .before .before .before .before .before .before .before .before .loop .inv .fuel - 1) ≡ c .before .before .before .before .before .before .before .before .before .before .before .before .before .before .before .before .before .before .before .before .before .before .before .loop .inv .fuel = omega (arith, c .before .before .before .before .before .before .before .before .before .before .before .before .before .before .before .before .before .before .before .before .before .before .before .loop .inv .enough) in
-    record { fuel = c .before .before .before .before .before .before .before .before .before .before .before .before .before .before .before .before .before .before .before .before .before .before .before .loop .inv .fuel - 1; enough = omega (arith, c .before .before .before .before .before .before .before .before .before .before .before .before .before .before .before .before .before .before .before .before .before .before .before .loop .inv .enough); same = rw f (again t c ∙ c .before .before .before .before .before .before .before .before .before .before .before .before .before .before .before .before .before .before .before .before .before .before .before .loop .inv .same); errors = c .before .before .before .before .before .before .before .before .finish-call .kept .1 .0 ∙ c .before .before .before .before .before .before .before .before .before .before .before .before .before .before .before .arguments .kept .1 .0 ∙ c .before .before .before .before .before .before .before .before .before .before .before .before .before .before .before .before .before .before .before .before .before .before .before .loop .inv .errors; nodes = c .before .before .before .before .before .before .before .before .finish-call .kept .1 .1 .0 ∙ c .before .before .before .before .before .before .before .before .before .before .before .before .before .before .before .arguments .kept .1 .1 .0 ∙ c .before .before .before .before .before .before .before .before .before .before .before .before .before .before .before .before .before .before .before .before .before .before .before .loop .inv .nodes }
+    let f : suc (c .before .before .before .before .before .before .before .before .before .before .before .before .before .before .before .before .before .before .before .before .before .loop .inv .fuel - 1) ≡ c .before .before .before .before .before .before .before .before .before .before .before .before .before .before .before .before .before .before .before .before .before .loop .inv .fuel = omega (arith, c .before .before .before .before .before .before .before .before .before .before .before .before .before .before .before .before .before .before .before .before .before .loop .inv .enough) in
+    record { fuel = c .before .before .before .before .before .before .before .before .before .before .before .before .before .before .before .before .before .before .before .before .before .loop .inv .fuel - 1; enough = omega (arith, c .before .before .before .before .before .before .before .before .before .before .before .before .before .before .before .before .before .before .before .before .before .loop .inv .enough); same = rw f (again t c ∙ c .before .before .before .before .before .before .before .before .before .before .before .before .before .before .before .before .before .before .before .before .before .loop .inv .same); errors = c .before .before .before .before .before .before .before .before .finish-call .kept .1 .0 ∙ c .before .before .before .before .before .before .before .before .before .before .before .before .before .before .before .arguments .kept .1 .0 ∙ c .before .before .before .before .before .before .before .before .before .before .before .before .before .before .before .before .before .before .before .before .before .loop .inv .errors; nodes = c .before .before .before .before .before .before .before .before .finish-call .kept .1 .1 .0 ∙ c .before .before .before .before .before .before .before .before .before .before .before .before .before .before .before .arguments .kept .1 .1 .0 ∙ c .before .before .before .before .before .before .before .before .before .before .before .before .before .before .before .before .before .before .before .before .before .loop .inv .nodes }
 
 at-token-requires-2 : (t : ℕ) → call-lts.Need-at-token-requires-2 (claims t) (call-at t) call.Post call-Inv-loop call-μ-loop
 at-token-requires-2 t c κs = search needs
@@ -183,16 +175,16 @@ enum-told-3 : (t : ℕ) → call-lts.Need-enum-told-3 (claims t) (call-at t) cal
 enum-told-3 t c = search needs
 
 same-length-5 : (t : ℕ) → call-lts.Need-same-length-5 (claims t) (call-at t) call.Post call-Inv-loop call-μ-loop
-same-length-5 t c = c .before .before .before .before .before .before .get .kept .1 .0 ∙ c .before .before .before .before .before .before .before .before .before .before .before .before .before .before .before .loop .inv .errors ∙ c .before .before .before .before .before .before .before .before .before .before .before .before .before .before .before .before .before .before .before .before .before .before .before .before .primary .kept .1 .0
+same-length-5 t c = c .before .before .before .before .before .before .get .kept .1 .0 ∙ c .before .before .before .before .before .before .before .before .before .before .before .before .before .loop .inv .errors ∙ c .before .before .before .before .before .before .before .before .before .before .before .before .before .before .before .before .before .before .before .before .before .before .primary .kept .1 .0
 
 same-length-6 : (t : ℕ) → call-lts.Need-same-length-6 (claims t) (call-at t) call.Post call-Inv-loop call-μ-loop
-same-length-6 t c = c .before .before .before .before .before .before .get .kept .1 .1 .0 ∙ c .before .before .before .before .before .before .before .before .before .before .before .before .before .before .before .loop .inv .nodes ∙ c .before .before .before .before .before .before .before .before .before .before .before .before .before .before .before .before .before .before .before .before .before .before .before .before .primary .kept .1 .1 .0
+same-length-6 t c = c .before .before .before .before .before .before .get .kept .1 .1 .0 ∙ c .before .before .before .before .before .before .before .before .before .before .before .before .before .loop .inv .nodes ∙ c .before .before .before .before .before .before .before .before .before .before .before .before .before .before .before .before .before .before .before .before .before .before .primary .kept .1 .1 .0
 
 returns-3 : (t : ℕ) → call-lts.Need-returns-3 (claims t) (call-at t) call.Post call-Inv-loop call-μ-loop
 returns-3 t c =
-    let n = next-is (c .before .before .before .before .before .before .before .before .before .before .before .before .before .before .before .before .before .before .before .before .before .before .before .before .before .before .before .before .before .before .args .tokens .now) (c .before .before .before .before .before .before .before .before .before .before .before .before .before .before .before .loop .q .current) _ _ _ (c .before .before .before .before .before .before .before .before .before .before .before .before .before .before .skip .ensures) (c .before .before .before .before .before .before .before .before .before .before .before .before .before .kind-at .ensures) (c .before .before .before .before .before .before .before .before .before .before .before .before .next .ensures) in
-    let e = call-dot (c .before .before .before .before .before .before .before .before .before .before .before .before .before .before .before .before .before .before .before .before .before .before .before .before .before .before .before .before .before .before .args .tokens .now) (lower (c .before .before .before .before .before .before .before .before .before .before .before .before .before .before .before .before .before .before .before .before .before .before .before .before .before .before .before .before .before .before .args .tokens .now) (c .before .before .before .before .before .before .before .before .before .before .before .before .before .before .before .before .before .before .before .before .before .before .before .before .before .before .before .before .before .before .args .levels)) (c .before .before .before .before .before .before .before .before .before .before .before .before .before .before .before .loop .inv .fuel) (c .before .before .before .before .before .before .before .before .before .before .before .before .before .before .before .loop .e) (c .before .before .before .before .before .before .before .before .before .before .before .before .before .before .before .loop .q) (c .before .before .before .before .before .before .before .before .before .before .before .before .before .before .before .loop .errors) (c .before .before .before .before .before .before .before .before .before .before .before .before .before .before .before .loop .nodes) _ _ n (c .before .before .before .before .before .before .before .before .before .before .if2 .taken) in
-    rw (head t (c .before .before .before .before .before .before .before .before .before .before .before .before .before .before .before), e, ← c .before .before .before .before .before .before .before .at-token2 .ensures) (rw (← c .before .before .before .before .before .before .get .ensures (lower (c .before .before .before .before .before .before .before .before .before .before .before .before .before .before .before .before .before .before .before .before .before .before .before .before .before .before .before .before .before .before .args .tokens .now) (c .before .before .before .before .before .before .before .before .before .before .before .before .before .before .before .before .before .before .before .before .before .before .before .before .before .before .before .before .before .before .args .levels)), c .enum-told3 .given .1))
+    let n = peeked (c .before .before .before .before .before .before .before .before .before .before .before .before .before .before .before .before .before .before .before .before .before .before .before .before .before .before .before .before .args .tokens .now) (c .before .before .before .before .before .before .before .before .before .before .before .before .before .loop .q .current) _ (c .before .before .before .before .before .before .before .before .before .before .before .before .peek .ensures) in
+    let e = call-dot (c .before .before .before .before .before .before .before .before .before .before .before .before .before .before .before .before .before .before .before .before .before .before .before .before .before .before .before .before .args .tokens .now) (lower (c .before .before .before .before .before .before .before .before .before .before .before .before .before .before .before .before .before .before .before .before .before .before .before .before .before .before .before .before .args .tokens .now) (c .before .before .before .before .before .before .before .before .before .before .before .before .before .before .before .before .before .before .before .before .before .before .before .before .before .before .before .before .args .levels)) (c .before .before .before .before .before .before .before .before .before .before .before .before .before .loop .inv .fuel) (c .before .before .before .before .before .before .before .before .before .before .before .before .before .loop .e) (c .before .before .before .before .before .before .before .before .before .before .before .before .before .loop .q) (c .before .before .before .before .before .before .before .before .before .before .before .before .before .loop .errors) (c .before .before .before .before .before .before .before .before .before .before .before .before .before .loop .nodes) _ _ n (c .before .before .before .before .before .before .before .before .before .before .if2 .taken) in
+    rw (head t (c .before .before .before .before .before .before .before .before .before .before .before .before .before), e, ← c .before .before .before .before .before .before .before .at-token2 .ensures) (rw (← c .before .before .before .before .before .before .get .ensures (lower (c .before .before .before .before .before .before .before .before .before .before .before .before .before .before .before .before .before .before .before .before .before .before .before .before .before .before .before .before .args .tokens .now) (c .before .before .before .before .before .before .before .before .before .before .before .before .before .before .before .before .before .before .before .before .before .before .before .before .before .before .before .before .args .levels)), c .enum-told3 .given .1))
 
 loop-less-2 : (t : ℕ) → call-lts.Need-loop-less-2 (claims t) (call-at t) call.Post call-Inv-loop call-μ-loop
 loop-less-2 t c = let g = turn-2 t c in omega arith
@@ -200,14 +192,14 @@ loop-less-2 t c = let g = turn-2 t c in omega arith
 loop-again-2 : (t : ℕ) → call-lts.Need-loop-again-2 (claims t) (call-at t) call.Post call-Inv-loop call-μ-loop
 loop-again-2 t c =
     let g = turn-2 t c in
-    let f : suc (c .before .before .before .before .before .before .before .before .before .before .before .before .before .before .before .before .before .loop .inv .fuel - 1) ≡ c .before .before .before .before .before .before .before .before .before .before .before .before .before .before .before .before .before .loop .inv .fuel = omega (arith, c .before .before .before .before .before .before .before .before .before .before .before .before .before .before .before .before .before .loop .inv .enough) in
-    record { fuel = c .before .before .before .before .before .before .before .before .before .before .before .before .before .before .before .before .before .loop .inv .fuel - 1; enough = omega (arith, c .before .before .before .before .before .before .before .before .before .before .before .before .before .before .before .before .before .loop .inv .enough); same = rw f (again-2 t c ∙ c .before .before .before .before .before .before .before .before .before .before .before .before .before .before .before .before .before .loop .inv .same); errors = c .before .before .before .before .before .before .before .before .get .kept .1 .0 ∙ c .before .before .before .before .before .before .before .before .before .before .before .before .before .before .before .before .before .loop .inv .errors; nodes = c .before .before .before .before .before .before .before .before .get .kept .1 .1 .0 ∙ c .before .before .before .before .before .before .before .before .before .before .before .before .before .before .before .before .before .loop .inv .nodes }
+    let f : suc (c .before .before .before .before .before .before .before .before .before .before .before .before .before .before .before .loop .inv .fuel - 1) ≡ c .before .before .before .before .before .before .before .before .before .before .before .before .before .before .before .loop .inv .fuel = omega (arith, c .before .before .before .before .before .before .before .before .before .before .before .before .before .before .before .loop .inv .enough) in
+    record { fuel = c .before .before .before .before .before .before .before .before .before .before .before .before .before .before .before .loop .inv .fuel - 1; enough = omega (arith, c .before .before .before .before .before .before .before .before .before .before .before .before .before .before .before .loop .inv .enough); same = rw f (again-2 t c ∙ c .before .before .before .before .before .before .before .before .before .before .before .before .before .before .before .loop .inv .same); errors = c .before .before .before .before .before .before .before .before .get .kept .1 .0 ∙ c .before .before .before .before .before .before .before .before .before .before .before .before .before .before .before .loop .inv .errors; nodes = c .before .before .before .before .before .before .before .before .get .kept .1 .1 .0 ∙ c .before .before .before .before .before .before .before .before .before .before .before .before .before .before .before .loop .inv .nodes }
 
 at-token-requires-3 : (t : ℕ) → call-lts.Need-at-token-requires-3 (claims t) (call-at t) call.Post call-Inv-loop call-μ-loop
 at-token-requires-3 t c κs = search needs
 
 access-requires : (t : ℕ) → call-lts.Need-access-requires (claims t) (call-at t) call.Post call-Inv-loop call-μ-loop
-access-requires t c κs = omega (arith, c .before .before .before .before .before .before .before .before .before .before .before .before .before .before .before .before .before .before .before .before .before .before .before .before .pre)
+access-requires t c κs = omega (arith, c .before .before .before .before .before .before .before .before .before .before .before .before .before .before .before .before .before .before .before .before .before .before .pre)
 
 enum-known-kh-3 : (t : ℕ) → call-lts.Need-enum-known-kh-3 (claims t) (call-at t) call.Post call-Inv-loop call-μ-loop
 enum-known-kh-3 t c = search needs
@@ -216,16 +208,16 @@ enum-told-4 : (t : ℕ) → call-lts.Need-enum-told-4 (claims t) (call-at t) cal
 enum-told-4 t c = search needs
 
 same-length-7 : (t : ℕ) → call-lts.Need-same-length-7 (claims t) (call-at t) call.Post call-Inv-loop call-μ-loop
-same-length-7 t c = c .before .before .before .before .before .before .access .kept .1 .0 ∙ c .before .before .before .before .before .before .before .before .before .before .before .before .before .before .before .before .loop .inv .errors ∙ c .before .before .before .before .before .before .before .before .before .before .before .before .before .before .before .before .before .before .before .before .before .before .before .before .before .primary .kept .1 .0
+same-length-7 t c = c .before .before .before .before .before .before .access .kept .1 .0 ∙ c .before .before .before .before .before .before .before .before .before .before .before .before .before .before .loop .inv .errors ∙ c .before .before .before .before .before .before .before .before .before .before .before .before .before .before .before .before .before .before .before .before .before .before .before .primary .kept .1 .0
 
 same-length-8 : (t : ℕ) → call-lts.Need-same-length-8 (claims t) (call-at t) call.Post call-Inv-loop call-μ-loop
-same-length-8 t c = c .before .before .before .before .before .before .access .kept .1 .1 .0 ∙ c .before .before .before .before .before .before .before .before .before .before .before .before .before .before .before .before .loop .inv .nodes ∙ c .before .before .before .before .before .before .before .before .before .before .before .before .before .before .before .before .before .before .before .before .before .before .before .before .before .primary .kept .1 .1 .0
+same-length-8 t c = c .before .before .before .before .before .before .access .kept .1 .1 .0 ∙ c .before .before .before .before .before .before .before .before .before .before .before .before .before .before .loop .inv .nodes ∙ c .before .before .before .before .before .before .before .before .before .before .before .before .before .before .before .before .before .before .before .before .before .before .before .primary .kept .1 .1 .0
 
 returns-4 : (t : ℕ) → call-lts.Need-returns-4 (claims t) (call-at t) call.Post call-Inv-loop call-μ-loop
 returns-4 t c =
-    let n = next-is (c .before .before .before .before .before .before .before .before .before .before .before .before .before .before .before .before .before .before .before .before .before .before .before .before .before .before .before .before .before .before .before .args .tokens .now) (c .before .before .before .before .before .before .before .before .before .before .before .before .before .before .before .before .loop .q .current) _ _ _ (c .before .before .before .before .before .before .before .before .before .before .before .before .before .before .before .skip .ensures) (c .before .before .before .before .before .before .before .before .before .before .before .before .before .before .kind-at .ensures) (c .before .before .before .before .before .before .before .before .before .before .before .before .before .next .ensures) in
-    let e = call-brace (c .before .before .before .before .before .before .before .before .before .before .before .before .before .before .before .before .before .before .before .before .before .before .before .before .before .before .before .before .before .before .before .args .tokens .now) (lower (c .before .before .before .before .before .before .before .before .before .before .before .before .before .before .before .before .before .before .before .before .before .before .before .before .before .before .before .before .before .before .before .args .tokens .now) (c .before .before .before .before .before .before .before .before .before .before .before .before .before .before .before .before .before .before .before .before .before .before .before .before .before .before .before .before .before .before .before .args .levels)) (c .before .before .before .before .before .before .before .before .before .before .before .before .before .before .before .before .loop .inv .fuel) (c .before .before .before .before .before .before .before .before .before .before .before .before .before .before .before .before .loop .e) (c .before .before .before .before .before .before .before .before .before .before .before .before .before .before .before .before .loop .q) (c .before .before .before .before .before .before .before .before .before .before .before .before .before .before .before .before .loop .errors) (c .before .before .before .before .before .before .before .before .before .before .before .before .before .before .before .before .loop .nodes) _ _ n (c .before .before .before .before .before .before .before .before .before .before .if3 .taken) in
-    rw (head t (c .before .before .before .before .before .before .before .before .before .before .before .before .before .before .before .before), e, ← c .before .before .before .before .before .before .before .at-token3 .ensures) (rw (← c .before .before .before .before .before .before .access .ensures, c .enum-told4 .given .1))
+    let n = peeked (c .before .before .before .before .before .before .before .before .before .before .before .before .before .before .before .before .before .before .before .before .before .before .before .before .before .before .before .before .before .args .tokens .now) (c .before .before .before .before .before .before .before .before .before .before .before .before .before .before .loop .q .current) _ (c .before .before .before .before .before .before .before .before .before .before .before .before .before .peek .ensures) in
+    let e = call-brace (c .before .before .before .before .before .before .before .before .before .before .before .before .before .before .before .before .before .before .before .before .before .before .before .before .before .before .before .before .before .args .tokens .now) (lower (c .before .before .before .before .before .before .before .before .before .before .before .before .before .before .before .before .before .before .before .before .before .before .before .before .before .before .before .before .before .args .tokens .now) (c .before .before .before .before .before .before .before .before .before .before .before .before .before .before .before .before .before .before .before .before .before .before .before .before .before .before .before .before .before .args .levels)) (c .before .before .before .before .before .before .before .before .before .before .before .before .before .before .loop .inv .fuel) (c .before .before .before .before .before .before .before .before .before .before .before .before .before .before .loop .e) (c .before .before .before .before .before .before .before .before .before .before .before .before .before .before .loop .q) (c .before .before .before .before .before .before .before .before .before .before .before .before .before .before .loop .errors) (c .before .before .before .before .before .before .before .before .before .before .before .before .before .before .loop .nodes) _ _ n (c .before .before .before .before .before .before .before .before .before .before .if3 .taken) in
+    rw (head t (c .before .before .before .before .before .before .before .before .before .before .before .before .before .before), e, ← c .before .before .before .before .before .before .before .at-token3 .ensures) (rw (← c .before .before .before .before .before .before .access .ensures, c .enum-told4 .given .1))
 
 loop-less-3 : (t : ℕ) → call-lts.Need-loop-less-3 (claims t) (call-at t) call.Post call-Inv-loop call-μ-loop
 loop-less-3 t c = let g = turn-3 t c in omega arith
@@ -233,23 +225,23 @@ loop-less-3 t c = let g = turn-3 t c in omega arith
 loop-again-3 : (t : ℕ) → call-lts.Need-loop-again-3 (claims t) (call-at t) call.Post call-Inv-loop call-μ-loop
 loop-again-3 t c =
     let g = turn-3 t c in
-    let f : suc (c .before .before .before .before .before .before .before .before .before .before .before .before .before .before .before .before .before .before .loop .inv .fuel - 1) ≡ c .before .before .before .before .before .before .before .before .before .before .before .before .before .before .before .before .before .before .loop .inv .fuel = omega (arith, c .before .before .before .before .before .before .before .before .before .before .before .before .before .before .before .before .before .before .loop .inv .enough) in
-    record { fuel = c .before .before .before .before .before .before .before .before .before .before .before .before .before .before .before .before .before .before .loop .inv .fuel - 1; enough = omega (arith, c .before .before .before .before .before .before .before .before .before .before .before .before .before .before .before .before .before .before .loop .inv .enough); same = rw f (again-3 t c ∙ c .before .before .before .before .before .before .before .before .before .before .before .before .before .before .before .before .before .before .loop .inv .same); errors = c .before .before .before .before .before .before .before .before .access .kept .1 .0 ∙ c .before .before .before .before .before .before .before .before .before .before .before .before .before .before .before .before .before .before .loop .inv .errors; nodes = c .before .before .before .before .before .before .before .before .access .kept .1 .1 .0 ∙ c .before .before .before .before .before .before .before .before .before .before .before .before .before .before .before .before .before .before .loop .inv .nodes }
+    let f : suc (c .before .before .before .before .before .before .before .before .before .before .before .before .before .before .before .before .loop .inv .fuel - 1) ≡ c .before .before .before .before .before .before .before .before .before .before .before .before .before .before .before .before .loop .inv .fuel = omega (arith, c .before .before .before .before .before .before .before .before .before .before .before .before .before .before .before .before .loop .inv .enough) in
+    record { fuel = c .before .before .before .before .before .before .before .before .before .before .before .before .before .before .before .before .loop .inv .fuel - 1; enough = omega (arith, c .before .before .before .before .before .before .before .before .before .before .before .before .before .before .before .before .loop .inv .enough); same = rw f (again-3 t c ∙ c .before .before .before .before .before .before .before .before .before .before .before .before .before .before .before .before .loop .inv .same); errors = c .before .before .before .before .before .before .before .before .access .kept .1 .0 ∙ c .before .before .before .before .before .before .before .before .before .before .before .before .before .before .before .before .loop .inv .errors; nodes = c .before .before .before .before .before .before .before .before .access .kept .1 .1 .0 ∙ c .before .before .before .before .before .before .before .before .before .before .before .before .before .before .before .before .loop .inv .nodes }
 
 found-requires : (t : ℕ) → call-lts.Need-found-requires (claims t) (call-at t) call.Post call-Inv-loop call-μ-loop
 found-requires t c κs = search needs
 
 same-length-9 : (t : ℕ) → call-lts.Need-same-length-9 (claims t) (call-at t) call.Post call-Inv-loop call-μ-loop
-same-length-9 t c = c .before .before .before .before .before .before .before .loop .inv .errors ∙ c .before .before .before .before .before .before .before .before .before .before .before .before .before .before .before .before .primary .kept .1 .0
+same-length-9 t c = c .before .before .before .before .before .loop .inv .errors ∙ c .before .before .before .before .before .before .before .before .before .before .before .before .before .before .primary .kept .1 .0
 
 same-length-10 : (t : ℕ) → call-lts.Need-same-length-10 (claims t) (call-at t) call.Post call-Inv-loop call-μ-loop
-same-length-10 t c = c .before .before .before .before .before .before .before .loop .inv .nodes ∙ c .before .before .before .before .before .before .before .before .before .before .before .before .before .before .before .before .primary .kept .1 .1 .0
+same-length-10 t c = c .before .before .before .before .before .loop .inv .nodes ∙ c .before .before .before .before .before .before .before .before .before .before .before .before .before .before .primary .kept .1 .1 .0
 
 returns-5 : (t : ℕ) → call-lts.Need-returns-5 (claims t) (call-at t) call.Post call-Inv-loop call-μ-loop
 returns-5 t c =
-    let n = next-is (c .before .before .before .before .before .before .before .before .before .before .before .before .before .before .before .before .before .before .before .before .before .before .args .tokens .now) (c .before .before .before .before .before .before .before .loop .q .current) _ _ _ (c .before .before .before .before .before .before .skip .ensures) (c .before .before .before .before .before .kind-at .ensures) (c .before .before .before .before .next .ensures) in
-    let e = call-end (c .before .before .before .before .before .before .before .before .before .before .before .before .before .before .before .before .before .before .before .before .before .before .args .tokens .now) (lower (c .before .before .before .before .before .before .before .before .before .before .before .before .before .before .before .before .before .before .before .before .before .before .args .tokens .now) (c .before .before .before .before .before .before .before .before .before .before .before .before .before .before .before .before .before .before .before .before .before .before .args .levels)) (c .before .before .before .before .before .before .before .loop .inv .fuel) (c .before .before .before .before .before .before .before .loop .e) (c .before .before .before .before .before .before .before .loop .q) (c .before .before .before .before .before .before .before .loop .errors) (c .before .before .before .before .before .before .before .loop .nodes) _ _ n (c .before .before .before .if1 .left) (c .before .before .if2 .left) (c .before .if3 .left) in
-    ap (λ (x : Out). reply (x .p) (x .got) (c .before .before .before .before .before .before .before .loop .errors) (c .before .before .before .before .before .before .before .loop .nodes)) (c .found .ensures) ∙ sym (head t (c .before .before .before .before .before .before .before) ∙ e)
+    let n = peeked (c .before .before .before .before .before .before .before .before .before .before .before .before .before .before .before .before .before .before .before .before .args .tokens .now) (c .before .before .before .before .before .loop .q .current) _ (c .before .before .before .before .peek .ensures) in
+    let e = call-end (c .before .before .before .before .before .before .before .before .before .before .before .before .before .before .before .before .before .before .before .before .args .tokens .now) (lower (c .before .before .before .before .before .before .before .before .before .before .before .before .before .before .before .before .before .before .before .before .args .tokens .now) (c .before .before .before .before .before .before .before .before .before .before .before .before .before .before .before .before .before .before .before .before .args .levels)) (c .before .before .before .before .before .loop .inv .fuel) (c .before .before .before .before .before .loop .e) (c .before .before .before .before .before .loop .q) (c .before .before .before .before .before .loop .errors) (c .before .before .before .before .before .loop .nodes) _ _ n (c .before .before .before .if1 .left) (c .before .before .if2 .left) (c .before .if3 .left) in
+    ap (λ (x : Out). reply (x .p) (x .got) (c .before .before .before .before .before .loop .errors) (c .before .before .before .before .before .loop .nodes)) (c .found .ensures) ∙ sym (head t (c .before .before .before .before .before) ∙ e)
 
 pub call-ok : {M : Type 1} (t : ℕ) → call-lts.Closed (claims t) (call-at t) call.Post M
 call-ok t = call-lts.spec (claims t) (call-at t) call.Post
@@ -262,9 +254,7 @@ call-ok t = call-lts.spec (claims t) (call-at t) call.Post
     (same-length-2 t)
     (returns t)
     (loop-holds t)
-    (skip-requires t)
-    (kind-at-requires t)
-    (next-requires t)
+    (peek-requires t)
     (at-token-requires t)
     (arguments-requires t)
     (finish-call-requires t)

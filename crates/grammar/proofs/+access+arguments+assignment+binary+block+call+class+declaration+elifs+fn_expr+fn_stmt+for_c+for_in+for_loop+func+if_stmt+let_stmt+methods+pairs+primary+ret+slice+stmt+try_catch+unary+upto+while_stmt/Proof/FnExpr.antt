@@ -1,4 +1,4 @@
--- `fn-expr`, of the cycle.
+-- Made by tools/remake cycle grammar from tools/ans/grammar/fn_expr.txt: `fn-expr`, of the cycle.
 use Prim.Native.Nat.{ℕ}
 use Rattle.parser.specs.Programs.{run}
 use Rattle.parser.specs.Grammar.{lower, fnExpr}

@@ -1,4 +1,4 @@
--- `fn-stmt`, of the cycle.
+-- Made by tools/remake cycle grammar from tools/ans/grammar/fn_stmt.txt: `fn-stmt`, of the cycle.
 use Prim.Native.Nat.{ℕ}
 use Rattle.parser.specs.Programs.{run}
 use Rattle.parser.specs.Grammar.{lower, fnStmt}

@@ -1,4 +1,4 @@
--- `for-loop`, of the cycle.
+-- Made by tools/remake cycle grammar from tools/ans/grammar/for_loop.txt: `for-loop`, of the cycle.
 use Prim.Native.Nat.{ℕ}
 use Rattle.parser.specs.Programs.{run}
 use Rattle.parser.specs.Grammar.{lower, forLoop, classicFor}

@@ -1,4 +1,4 @@
--- `if-stmt`, of the cycle.
+-- Made by tools/remake cycle grammar from tools/ans/grammar/if_stmt.txt: `if-stmt`, of the cycle.
 use Prim.Native.Nat.{ℕ}
 use Rattle.parser.specs.Programs.{run}
 use Rattle.parser.specs.Grammar.{lower, ifStmt, block, fuel}

@@ -1,4 +1,4 @@
--- The measures of the cycle, and each member's claims at and below a measure.
+-- Made by tools/remake cycle grammar from tools/ans/grammar/cycle.txt: the measures of the cycle, and each member's claims at and below a measure.
 use Prim.Native.Nat.{ℕ, _+_, _-_, _*_, _<_}
 use borrow.Fn.Kinds.{In}
 use borrow.Fn.PlainCycle.{Measures, is, falls, and}

@@ -1,4 +1,4 @@
--- `methods`, of the cycle.
+-- Made by tools/remake cycle grammar from tools/ans/grammar/methods.txt: `methods`, of the cycle.
 use mathlib.Core.Path.{_≡_, refl, sym, ap, _∙_}
 use mathlib.Core.Bool.{true, false}
 use mathlib.Core.List.{List, []}

@@ -1,4 +1,4 @@
--- `try-catch`, of the cycle.
+-- Made by tools/remake cycle grammar from tools/ans/grammar/try_catch.txt: `try-catch`, of the cycle.
 use Prim.Native.Nat.{ℕ}
 use Rattle.parser.specs.Programs.{run}
 use Rattle.parser.specs.Grammar.{lower, tryCatch}

@@ -1,20 +1,17 @@
--- `unary`, of the cycle.
+-- Made by tools/remake cycle grammar from tools/ans/grammar/unary.txt: `unary`, of the cycle.
 use Prim.Native.Nat.{ℕ}
 use mathlib.Core.Path.{_≡_, refl, sym, _∙_}
-use Rattle.parser.specs.Tokens.{after}
 use Rattle.parser.specs.Programs.{run, Operand}
 use Rattle.parser.specs.Grammar.{lower, body}
-use Rattle.pieces.proofs.NextKind.{next-is}
+use Rattle.pieces.proofs.NextKind.{peeked}
 use Rattle.grammar.proofs.Prefix.{unary-prefix, unary-else}
 use Rattle.grammar.proofs.Steps.{lower-zero, lower-step}
 use Rattle.grammar.proofs.call.Reads as call
 use Rattle.grammar.proofs.unary.Reads as unary
 use Rattle.grammar.proofs.+access+arguments+assignment+binary+block+call+class+declaration+elifs+fn_expr+fn_stmt+for_c+for_in+for_loop+func+if_stmt+let_stmt+methods+pairs+primary+ret+slice+stmt+try_catch+unary+upto+while_stmt.Lts-unary as unary-lts
 use Rattle.parser.proofs.State.at_token.Reads as at-token-reads
-use Rattle.parser.proofs.kind_at.Reads as kind-at-reads
 use Rattle.parser.proofs.make.Reads as make-reads
-use Rattle.parser.proofs.next.Reads as next-reads
-use Rattle.parser.proofs.skip.Reads as skip-reads
+use Rattle.parser.proofs.peek.Reads as peek-reads
 use Rattle.parser.proofs.stopped.Reads as stopped-reads
 use Rattle.pieces.proofs.row.Reads as row-reads
 use Rattle.grammar.proofs.+access+arguments+assignment+binary+block+call+class+declaration+elifs+fn_expr+fn_stmt+for_c+for_in+for_loop+func+if_stmt+let_stmt+methods+pairs+primary+ret+slice+stmt+try_catch+unary+upto+while_stmt.Proof.Measures.{unary-at, call-below, unary-below}
@@ -22,20 +19,10 @@ use borrow.Author.Needs.{needs}
 use native.Mathlib.Omega.{arith}
 
 abbrev claims : ℕ → unary-lts.Claims
-claims t = (skip-reads.Asked, skip-reads.Learnt, kind-at-reads.Asked, kind-at-reads.Learnt, next-reads.Asked, next-reads.Learnt, at-token-reads.Asked, at-token-reads.Learnt, stopped-reads.Asked, stopped-reads.Learnt, unary-below t, unary.Post, row-reads.Asked, row-reads.Learnt, make-reads.Asked, make-reads.Learnt, call-below t, call.Post)
+claims t = (peek-reads.Asked, peek-reads.Learnt, at-token-reads.Asked, at-token-reads.Learnt, stopped-reads.Asked, stopped-reads.Learnt, unary-below t, unary.Post, row-reads.Asked, row-reads.Learnt, make-reads.Asked, make-reads.Learnt, call-below t, call.Post)
 
--- a value is itself
-same : (n : ℕ) → n ≡ n
-same n = refl
-
-skip-requires : (t : ℕ) → unary-lts.Need-skip-requires (claims t) (unary-at t) unary.Post
-skip-requires t c κs = search needs
-
-kind-at-requires : (t : ℕ) → unary-lts.Need-kind-at-requires (claims t) (unary-at t) unary.Post
-kind-at-requires t c κs = search needs
-
-next-requires : (t : ℕ) → unary-lts.Need-next-requires (claims t) (unary-at t) unary.Post
-next-requires t c κs = search needs
+peek-requires : (t : ℕ) → unary-lts.Need-peek-requires (claims t) (unary-at t) unary.Post
+peek-requires t c κs = search needs
 
 at-token-requires : (t : ℕ) → unary-lts.Need-at-token-requires (claims t) (unary-at t) unary.Post
 at-token-requires t c κs = search needs
@@ -46,16 +33,16 @@ stopped-requires t c κs = search needs
 returns : (t : ℕ) → unary-lts.Need-returns (claims t) (unary-at t) unary.Post
 unfolding run
 returns t c =
-    let n = next-is (c .before .before .before .before .before .before .before .before .before .before .args .tokens .now) (c .before .before .before .before .before .before .before .before .before .before .args .p .current) _ _ _ (c .before .before .before .before .before .before .skip .ensures) (c .before .before .before .before .before .kind-at .ensures) (c .before .before .before .next .ensures) in
-    let h = unary-prefix (c .before .before .before .before .before .before .before .before .before .before .args .tokens .now) (lower (c .before .before .before .before .before .before .before .before .before .before .args .tokens .now) (c .before .before .before .before .before .before .before .before .before .before .args .levels)) (c .before .before .before .before .before .before .before .before .before .before .args .p) (c .before .before .before .before .before .before .before .before .before .before .args .errors .now) (c .before .before .before .before .before .before .before .before .before .before .args .nodes .now) _ _ n (c .before .before .before .before .if1 .taken) in
-    let z = lower-zero (c .before .before .before .before .before .before .before .before .before .before .args .tokens .now) (c .before .before .before .before .before .before .before .before .before .before .args .levels) Operand (c .before .before .at-token .result) (c .before .before .before .before .before .before .before .before .before .before .args .errors .now) (c .before .before .before .before .before .before .before .before .before .before .args .nodes .now) (c .before .if2 .taken) in
+    let n = peeked (c .before .before .before .before .before .before .before .before .args .tokens .now) (c .before .before .before .before .before .before .before .before .args .p .current) _ (c .before .before .before .before .peek .ensures) in
+    let h = unary-prefix (c .before .before .before .before .before .before .before .before .args .tokens .now) (lower (c .before .before .before .before .before .before .before .before .args .tokens .now) (c .before .before .before .before .before .before .before .before .args .levels)) (c .before .before .before .before .before .before .before .before .args .p) (c .before .before .before .before .before .before .before .before .args .errors .now) (c .before .before .before .before .before .before .before .before .args .nodes .now) _ _ n (c .before .before .before .if1 .taken) in
+    let z = lower-zero (c .before .before .before .before .before .before .before .before .args .tokens .now) (c .before .before .before .before .before .before .before .before .args .levels) Operand (c .before .before .at-token .result) (c .before .before .before .before .before .before .before .before .args .errors .now) (c .before .before .before .before .before .before .before .before .args .nodes .now) (c .before .if2 .taken) in
     rw (h, ← c .before .before .at-token .ensures, c .stopped .ensures) (rw (z))
 
 sub-unary : (t : ℕ) → unary-lts.Need-sub-unary (claims t) (unary-at t) unary.Post
 sub-unary t c = search needs
 
 unary-requires : (t : ℕ) → unary-lts.Need-unary-requires (claims t) (unary-at t) unary.Post
-unary-requires t c κs = omega (arith, c .before .before .before .before .before .before .before .before .before .before .before .pre)
+unary-requires t c κs = omega (arith, c .before .before .before .before .before .before .before .before .before .pre)
 
 enum-known-k : (t : ℕ) → unary-lts.Need-enum-known-k (claims t) (unary-at t) unary.Post
 enum-known-k t c = search needs
@@ -72,9 +59,9 @@ same-length-2 t c = c .before .before .before .before .before .before .unary .ke
 returns-2 : (t : ℕ) → unary-lts.Need-returns-2 (claims t) (unary-at t) unary.Post
 unfolding run body
 returns-2 t c =
-    let n = next-is (c .before .before .before .before .before .before .before .before .before .before .before .before .before .before .before .before .before .before .args .tokens .now) (c .before .before .before .before .before .before .before .before .before .before .before .before .before .before .before .before .before .before .args .p .current) _ _ _ (c .before .before .before .before .before .before .before .before .before .before .before .before .before .before .skip .ensures) (c .before .before .before .before .before .before .before .before .before .before .before .before .before .kind-at .ensures) (c .before .before .before .before .before .before .before .before .before .before .before .next .ensures) in
-    let h = unary-prefix (c .before .before .before .before .before .before .before .before .before .before .before .before .before .before .before .before .before .before .args .tokens .now) (lower (c .before .before .before .before .before .before .before .before .before .before .before .before .before .before .before .before .before .before .args .tokens .now) (c .before .before .before .before .before .before .before .before .before .before .before .before .before .before .before .before .before .before .args .levels)) (c .before .before .before .before .before .before .before .before .before .before .before .before .before .before .before .before .before .before .args .p) (c .before .before .before .before .before .before .before .before .before .before .before .before .before .before .before .before .before .before .args .errors .now) (c .before .before .before .before .before .before .before .before .before .before .before .before .before .before .before .before .before .before .args .nodes .now) _ _ n (c .before .before .before .before .before .before .before .before .before .before .before .before .if1 .taken) in
-    let z = lower-step (c .before .before .before .before .before .before .before .before .before .before .before .before .before .before .before .before .before .before .args .tokens .now) (c .before .before .before .before .before .before .before .before .before .before .before .before .before .before .before .before .before .before .args .levels) Operand (c .before .before .before .before .before .before .before .before .before .before .at-token .result) (c .before .before .before .before .before .before .before .before .before .before .before .before .before .before .before .before .before .before .args .errors .now) (c .before .before .before .before .before .before .before .before .before .before .before .before .before .before .before .before .before .before .args .nodes .now) (c .before .before .before .before .before .before .before .before .before .if2 .left) in
+    let n = peeked (c .before .before .before .before .before .before .before .before .before .before .before .before .before .before .before .before .args .tokens .now) (c .before .before .before .before .before .before .before .before .before .before .before .before .before .before .before .before .args .p .current) _ (c .before .before .before .before .before .before .before .before .before .before .before .before .peek .ensures) in
+    let h = unary-prefix (c .before .before .before .before .before .before .before .before .before .before .before .before .before .before .before .before .args .tokens .now) (lower (c .before .before .before .before .before .before .before .before .before .before .before .before .before .before .before .before .args .tokens .now) (c .before .before .before .before .before .before .before .before .before .before .before .before .before .before .before .before .args .levels)) (c .before .before .before .before .before .before .before .before .before .before .before .before .before .before .before .before .args .p) (c .before .before .before .before .before .before .before .before .before .before .before .before .before .before .before .before .args .errors .now) (c .before .before .before .before .before .before .before .before .before .before .before .before .before .before .before .before .args .nodes .now) _ _ n (c .before .before .before .before .before .before .before .before .before .before .before .if1 .taken) in
+    let z = lower-step (c .before .before .before .before .before .before .before .before .before .before .before .before .before .before .before .before .args .tokens .now) (c .before .before .before .before .before .before .before .before .before .before .before .before .before .before .before .before .args .levels) Operand (c .before .before .before .before .before .before .before .before .before .before .at-token .result) (c .before .before .before .before .before .before .before .before .before .before .before .before .before .before .before .before .args .errors .now) (c .before .before .before .before .before .before .before .before .before .before .before .before .before .before .before .before .args .nodes .now) (c .before .before .before .before .before .before .before .before .before .if2 .left) in
     rw (h, ← c .before .before .before .before .before .before .before .before .before .before .at-token .ensures, z) (rw (← c .before .before .before .before .before .before .unary .ensures, c .enum-told .given .1))
 
 row-requires : (t : ℕ) → unary-lts.Need-row-requires (claims t) (unary-at t) unary.Post
@@ -92,13 +79,13 @@ same-length-4 t c = c .before .before .make .kept .0 ∙ c .before .before .befo
 returns-3 : (t : ℕ) → unary-lts.Need-returns-3 (claims t) (unary-at t) unary.Post
 unfolding run body
 returns-3 t c =
-    let n = next-is (c .before .before .before .before .before .before .before .before .before .before .before .before .before .before .before .before .before .before .before .before .before .before .before .before .before .args .tokens .now) (c .before .before .before .before .before .before .before .before .before .before .before .before .before .before .before .before .before .before .before .before .before .before .before .before .before .args .p .current) _ _ _ (c .before .before .before .before .before .before .before .before .before .before .before .before .before .before .before .before .before .before .before .before .before .skip .ensures) (c .before .before .before .before .before .before .before .before .before .before .before .before .before .before .before .before .before .before .before .before .kind-at .ensures) (c .before .before .before .before .before .before .before .before .before .before .before .before .before .before .before .before .before .before .next .ensures) in
-    let h = unary-prefix (c .before .before .before .before .before .before .before .before .before .before .before .before .before .before .before .before .before .before .before .before .before .before .before .before .before .args .tokens .now) (lower (c .before .before .before .before .before .before .before .before .before .before .before .before .before .before .before .before .before .before .before .before .before .before .before .before .before .args .tokens .now) (c .before .before .before .before .before .before .before .before .before .before .before .before .before .before .before .before .before .before .before .before .before .before .before .before .before .args .levels)) (c .before .before .before .before .before .before .before .before .before .before .before .before .before .before .before .before .before .before .before .before .before .before .before .before .before .args .p) (c .before .before .before .before .before .before .before .before .before .before .before .before .before .before .before .before .before .before .before .before .before .before .before .before .before .args .errors .now) (c .before .before .before .before .before .before .before .before .before .before .before .before .before .before .before .before .before .before .before .before .before .before .before .before .before .args .nodes .now) _ _ n (c .before .before .before .before .before .before .before .before .before .before .before .before .before .before .before .before .before .before .before .if1 .taken) in
-    let z = lower-step (c .before .before .before .before .before .before .before .before .before .before .before .before .before .before .before .before .before .before .before .before .before .before .before .before .before .args .tokens .now) (c .before .before .before .before .before .before .before .before .before .before .before .before .before .before .before .before .before .before .before .before .before .before .before .before .before .args .levels) Operand (c .before .before .before .before .before .before .before .before .before .before .before .before .before .before .before .before .before .at-token .result) (c .before .before .before .before .before .before .before .before .before .before .before .before .before .before .before .before .before .before .before .before .before .before .before .before .before .args .errors .now) (c .before .before .before .before .before .before .before .before .before .before .before .before .before .before .before .before .before .before .before .before .before .before .before .before .before .args .nodes .now) (c .before .before .before .before .before .before .before .before .before .before .before .before .before .before .before .before .if2 .left) in
+    let n = peeked (c .before .before .before .before .before .before .before .before .before .before .before .before .before .before .before .before .before .before .before .before .before .before .before .args .tokens .now) (c .before .before .before .before .before .before .before .before .before .before .before .before .before .before .before .before .before .before .before .before .before .before .before .args .p .current) _ (c .before .before .before .before .before .before .before .before .before .before .before .before .before .before .before .before .before .before .before .peek .ensures) in
+    let h = unary-prefix (c .before .before .before .before .before .before .before .before .before .before .before .before .before .before .before .before .before .before .before .before .before .before .before .args .tokens .now) (lower (c .before .before .before .before .before .before .before .before .before .before .before .before .before .before .before .before .before .before .before .before .before .before .before .args .tokens .now) (c .before .before .before .before .before .before .before .before .before .before .before .before .before .before .before .before .before .before .before .before .before .before .before .args .levels)) (c .before .before .before .before .before .before .before .before .before .before .before .before .before .before .before .before .before .before .before .before .before .before .before .args .p) (c .before .before .before .before .before .before .before .before .before .before .before .before .before .before .before .before .before .before .before .before .before .before .before .args .errors .now) (c .before .before .before .before .before .before .before .before .before .before .before .before .before .before .before .before .before .before .before .before .before .before .before .args .nodes .now) _ _ n (c .before .before .before .before .before .before .before .before .before .before .before .before .before .before .before .before .before .before .if1 .taken) in
+    let z = lower-step (c .before .before .before .before .before .before .before .before .before .before .before .before .before .before .before .before .before .before .before .before .before .before .before .args .tokens .now) (c .before .before .before .before .before .before .before .before .before .before .before .before .before .before .before .before .before .before .before .before .before .before .before .args .levels) Operand (c .before .before .before .before .before .before .before .before .before .before .before .before .before .before .before .before .before .at-token .result) (c .before .before .before .before .before .before .before .before .before .before .before .before .before .before .before .before .before .before .before .before .before .before .before .args .errors .now) (c .before .before .before .before .before .before .before .before .before .before .before .before .before .before .before .before .before .before .before .before .before .before .before .args .nodes .now) (c .before .before .before .before .before .before .before .before .before .before .before .before .before .before .before .before .if2 .left) in
     rw (h, ← c .before .before .before .before .before .before .before .before .before .before .before .before .before .before .before .before .before .at-token .ensures, z) (rw (← c .before .before .before .before .before .before .before .before .before .before .before .before .before .unary .ensures, c .before .before .before .before .before .before .before .k .given .1, ← c .before .before .before .row .ensures) (rw (← c .before .before .make .ensures (c .before .before .before .before .before .before .before .before .before .before .before .before .before .unary .last .1 .0))))
 
 call-requires : (t : ℕ) → unary-lts.Need-call-requires (claims t) (unary-at t) unary.Post
-call-requires t c κs = omega (arith, c .before .before .before .before .before .before .before .before .pre)
+call-requires t c κs = omega (arith, c .before .before .before .before .before .before .before .pre)
 
 same-length-5 : (t : ℕ) → unary-lts.Need-same-length-5 (claims t) (unary-at t) unary.Post
 same-length-5 t c = c .before .before .before .before .call .kept .1 .0
@@ -108,15 +95,13 @@ same-length-6 t c = c .before .before .before .before .call .kept .1 .1 .0
 
 returns-4 : (t : ℕ) → unary-lts.Need-returns-4 (claims t) (unary-at t) unary.Post
 returns-4 t c =
-    let n = next-is (c .before .before .before .before .before .before .before .before .before .before .before .before .before .args .tokens .now) (c .before .before .before .before .before .before .before .before .before .before .before .before .before .args .p .current) _ _ _ (c .before .before .before .before .before .before .before .before .before .skip .ensures) (c .before .before .before .before .before .before .before .before .kind-at .ensures) (same (after (c .before .before .before .before .before .before .before .before .before .before .before .before .before .args .tokens .now) (c .before .before .before .before .before .before .before .before .before .skip .result))) in
-    let h = unary-else (c .before .before .before .before .before .before .before .before .before .before .before .before .before .args .tokens .now) (lower (c .before .before .before .before .before .before .before .before .before .before .before .before .before .args .tokens .now) (c .before .before .before .before .before .before .before .before .before .before .before .before .before .args .levels)) (c .before .before .before .before .before .before .before .before .before .before .before .before .before .args .p) (c .before .before .before .before .before .before .before .before .before .before .before .before .before .args .errors .now) (c .before .before .before .before .before .before .before .before .before .before .before .before .before .args .nodes .now) _ _ n (c .before .before .before .before .before .before .before .if1 .left) in
+    let n = peeked (c .before .before .before .before .before .before .before .before .before .before .before .before .args .tokens .now) (c .before .before .before .before .before .before .before .before .before .before .before .before .args .p .current) _ (c .before .before .before .before .before .before .before .before .peek .ensures) in
+    let h = unary-else (c .before .before .before .before .before .before .before .before .before .before .before .before .args .tokens .now) (lower (c .before .before .before .before .before .before .before .before .before .before .before .before .args .tokens .now) (c .before .before .before .before .before .before .before .before .before .before .before .before .args .levels)) (c .before .before .before .before .before .before .before .before .before .before .before .before .args .p) (c .before .before .before .before .before .before .before .before .before .before .before .before .args .errors .now) (c .before .before .before .before .before .before .before .before .before .before .before .before .args .nodes .now) _ _ n (c .before .before .before .before .before .before .before .if1 .left) in
     rw (h, ← c .before .before .before .before .call .ensures)
 
 pub unary-ok : {M : Type 1} (t : ℕ) → unary-lts.Closed (claims t) (unary-at t) unary.Post M
 unary-ok t = unary-lts.spec (claims t) (unary-at t) unary.Post
-    (skip-requires t)
-    (kind-at-requires t)
-    (next-requires t)
+    (peek-requires t)
     (at-token-requires t)
     (stopped-requires t)
     (returns t)

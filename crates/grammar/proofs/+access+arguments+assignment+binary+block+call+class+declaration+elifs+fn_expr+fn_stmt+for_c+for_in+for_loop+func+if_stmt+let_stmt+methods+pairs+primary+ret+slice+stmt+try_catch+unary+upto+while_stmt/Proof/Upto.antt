@@ -1,4 +1,4 @@
--- `upto`, of the cycle.
+-- Made by tools/remake cycle grammar from tools/ans/grammar/upto.txt: `upto`, of the cycle.
 use Prim.Native.Nat.{ℕ}
 use Rattle.parser.specs.Programs.{run}
 use Rattle.parser.specs.Grammar.{lower}

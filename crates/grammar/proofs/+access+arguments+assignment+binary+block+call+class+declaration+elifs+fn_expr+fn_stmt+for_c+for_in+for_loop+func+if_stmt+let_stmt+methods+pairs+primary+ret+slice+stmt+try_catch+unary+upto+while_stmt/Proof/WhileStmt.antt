@@ -1,4 +1,4 @@
--- `while-stmt`, of the cycle.
+-- Made by tools/remake cycle grammar from tools/ans/grammar/while_stmt.txt: `while-stmt`, of the cycle.
 use Prim.Native.Nat.{ℕ}
 use Rattle.parser.specs.Programs.{run}
 use Rattle.parser.specs.Grammar.{lower, whileStmt}

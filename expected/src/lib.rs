@@ -1,0 +1,26 @@
+//! What a reading must come to, worked out from the original alone, and scripts to read.
+//!
+//! `lexing` has the tokens and errors as records, `nodes` turns the original's trees into node
+//! records, `unfold` turns node records back into trees, and `whole` has the answer for tables of
+//! any size.
+
+pub mod dice;
+pub mod lexing;
+pub mod maker;
+pub mod marks;
+pub mod nodes;
+pub mod scripts;
+pub mod spellings;
+pub mod whole;
+
+/// Document 01's numbers by name: the Rust crate's own file, so that there is one definition, though
+/// this crate links no library.
+#[path = "../../kettleplume/src/records.rs"]
+pub mod records;
+
+/// The way back from `nodes`: the file is the Rust crate's own, over the oracle's types. So what it
+/// makes of records is held against the original's trees, and not against a flattening of them.
+#[path = "../../kettleplume/src/unfold.rs"]
+pub mod unfold;
+
+pub use oracle::{expr, stmt, token};

@@ -1,0 +1,273 @@
+//! What a whole reading comes to, for tables of any size.
+//!
+//! The records come from the unchanged original. In which order nodes, errors and levels come it
+//! doesn't tell: that is the log of its copy with calls put in (`oracle::logged`), which has to
+//! agree with it in everything else.
+
+use oracle::logged::{self, Event, Log};
+use oracle::stmt::Stmt;
+use oracle::token::TokenData;
+use oracle::{Reading, Stop};
+
+use crate::lexing::{self, is_text, Error, Lexing, Token, LONGEST};
+use crate::marks;
+use crate::nodes::{Node, Nodes};
+use crate::records::{node, outcome};
+use crate::unfold;
+
+/// A script that the original can be given, and all that it makes of it.
+#[derive(Debug, Clone)]
+pub struct Whole {
+    pub lexing: Lexing,
+    pub parsing: Option<Parsing>,
+}
+
+/// What parsing comes to, which a stop in lexing shuts out.
+#[derive(Debug, Clone)]
+pub struct Parsing {
+    /// The tokens as the lexer gave them.
+    tokens: Vec<TokenData>,
+    /// The errors of lexing and parsing.
+    errors: Vec<Error>,
+    events: Vec<Event>,
+    stopped: bool,
+    /// The nodes of all finished statements, and each statement's number.
+    nodes: Vec<Node>,
+    numbers: Vec<u32>,
+    /// The finished statements: the original's, and those with marked tokens.
+    stmts: Vec<Stmt>,
+    marked: Vec<Stmt>,
+}
+
+/// The answer to a reading, and what is kept.
+#[derive(Debug, Clone, PartialEq, Eq, Default)]
+pub struct Answer {
+    pub outcome: u32,
+    pub tokens: Vec<Token>,
+    pub errors: Vec<Error>,
+    pub nodes: Vec<Node>,
+    pub first: u32,
+    /// How many top-level statements are kept.
+    pub statements: usize,
+    /// How many errors and nodes there are whenever a token before EOF is left to be read: before
+    /// the first statement, and behind others.
+    pub so_far: Vec<[u32; 2]>,
+}
+
+/// What is known about a source.
+#[derive(Debug, Clone)]
+pub enum Known {
+    /// Refused before it is read, with this outcome: nothing is kept.
+    Refused(u32),
+    /// Read.
+    Read(Box<Whole>),
+    /// It passes the text test but is no Rust string: the original can't be asked.
+    Nothing,
+}
+
+/// Reads a source of any bytes: 4 is tested first, then 3.
+pub fn known(source: &[u8]) -> Known {
+    if source.len() > LONGEST {
+        Known::Refused(outcome::TOO_LONG)
+    } else if !is_text(source) {
+        Known::Refused(outcome::NO_TEXT)
+    } else if let Ok(script) = std::str::from_utf8(source) {
+        Known::Read(Box::new(Whole::of(script)))
+    } else {
+        Known::Nothing
+    }
+}
+
+impl Whole {
+    /// What the original makes of a script. It reads, compares and drops trees by recursion: where
+    /// a script nests deeply this belongs on a large stack.
+    pub fn of(script: &str) -> Whole {
+        let lexed = oracle::lex(script);
+        let (lexing, _) = Lexing::of_reading(script, &lexed);
+        let parsing = match lexed.stop {
+            Stop::Lexing => None,
+            _ => Some(Parsing::of(script, lexed)),
+        };
+        Whole { lexing, parsing }
+    }
+
+    /// The answer where there is room for so many tokens, errors and nodes: the first event that
+    /// finds no room decides.
+    pub fn within(&self, [token_room, error_room, node_room]: [usize; 3]) -> Answer {
+        let lexing = self.lexing.within(token_room, error_room);
+        let kept = Answer {
+            outcome: lexing.outcome,
+            tokens: lexing.tokens,
+            errors: lexing.errors,
+            ..Answer::default()
+        };
+        match &self.parsing {
+            Some(parsing) if kept.outcome == outcome::DONE => {
+                parsing.within(kept, error_room, node_room)
+            }
+            _ => kept,
+        }
+    }
+
+    /// The rooms that the reading needs: so many tokens, errors, and nodes made. A level too many
+    /// or a stop ends it in a statement whose nodes are made but not kept.
+    pub fn needs(&self) -> [usize; 3] {
+        let tokens = self.lexing.tokens.len();
+        match &self.parsing {
+            Some(parsing) => [tokens, parsing.errors.len(), parsing.made()],
+            None => [tokens, self.lexing.errors.len(), 0],
+        }
+    }
+
+    /// The number of each finished top-level statement.
+    pub fn statement_numbers(&self) -> &[u32] {
+        self.parsing
+            .as_ref()
+            .map_or(&[], |parsing| &parsing.numbers)
+    }
+
+    /// What differs between a table of nodes, unfolded, and the trees that are to be kept.
+    pub fn tree_differs(&self, nodes: &[Node], first: u32, statements: usize) -> Option<String> {
+        let Some(parsing) = &self.parsing else {
+            return (first != 0).then(|| "a statement without parsing".to_string());
+        };
+        let marked: Vec<TokenData> = marks::all(&parsing.tokens);
+        let sides = [
+            ("", &parsing.tokens, &parsing.stmts),
+            (", tokens told apart", &marked, &parsing.marked),
+        ];
+        for (which, tokens, stmts) in sides {
+            match unfold::statements(nodes, tokens, first) {
+                Err(wrong) => return Some(format!("the nodes{which}: {wrong}")),
+                Ok(unfolded) if unfolded != stmts[..statements] => {
+                    let wanted = &stmts[..statements];
+                    return Some(format!(
+                        "the trees{which}\n  unfolded: {unfolded:?}\n  original: {wanted:?}"
+                    ));
+                }
+                Ok(_) => (),
+            }
+        }
+        None
+    }
+}
+
+impl Parsing {
+    fn of(script: &str, lexed: Reading) -> Parsing {
+        let Log {
+            events,
+            errors,
+            stmts: marked,
+            stopped,
+        } = logged::parse(marks::all(&lexed.tokens));
+        let mut all: Vec<Error> = lexed.errors.iter().map(lexing::error).collect();
+        all.extend(errors.iter().map(lexing::error));
+
+        let mut nodes = Nodes::new(&lexed.tokens);
+        let numbers = nodes.top_level(&marked);
+        let mut parsing = Parsing {
+            nodes: nodes.nodes,
+            tokens: lexed.tokens,
+            errors: all,
+            events,
+            stopped,
+            numbers,
+            stmts: vec![],
+            marked,
+        };
+        parsing.agrees_with_its_log(script);
+        parsing.stmts = parsing.unchanged(script);
+        parsing
+    }
+
+    /// The nodes that the trees have are those of the log, in its order.
+    fn agrees_with_its_log(&self, script: &str) {
+        let (mut made, mut ends) = (vec![], vec![]);
+        for event in &self.events {
+            match event {
+                Event::Node(kind) => made.push(*kind),
+                Event::Statement => ends.push(made.len() as u32),
+                Event::Error | Event::Level => (),
+            }
+        }
+        made.truncate(self.nodes.len());
+        let kinds: Vec<u32> = self.nodes.iter().map(|record| record[node::KIND]).collect();
+        assert_eq!(ends, self.numbers, "numbers of statements in {script:?}");
+        assert_eq!(made, kinds, "kinds of nodes in {script:?}");
+    }
+
+    /// The statements of the unchanged original, which has the same errors and stops alike. Where a
+    /// level too many opens it goes on: only what came before is compared.
+    fn unchanged(&self, script: &str) -> Vec<Stmt> {
+        let Reading {
+            errors,
+            mut stmts,
+            stop,
+            ..
+        } = oracle::read(script);
+        let errors: Vec<Error> = errors.iter().map(lexing::error).collect();
+        if self.too_deep() {
+            assert!(errors.starts_with(&self.errors), "errors in {script:?}");
+            stmts.truncate(self.marked.len());
+        } else {
+            assert_eq!(errors, self.errors, "errors in {script:?}");
+            assert_eq!(stop == Stop::Parsing, self.stopped, "{script:?}");
+        }
+        assert_eq!(stmts.len(), self.marked.len(), "statements in {script:?}");
+        stmts
+    }
+
+    fn too_deep(&self) -> bool {
+        self.events.last() == Some(&Event::Level)
+    }
+
+    /// How many nodes are made.
+    fn made(&self) -> usize {
+        let nodes = self.events.iter().filter(|e| matches!(e, Event::Node(_)));
+        nodes.count()
+    }
+
+    fn within(&self, lexed: Answer, error_room: usize, node_room: usize) -> Answer {
+        let (mut errors, mut nodes) = (lexed.errors.len(), 0);
+        let (mut statements, mut kept) = (0, 0);
+        let mut so_far = vec![[errors as u32, 0]];
+        let mut ended = match self.stopped {
+            true => outcome::STOPPED,
+            false => outcome::DONE,
+        };
+        for event in &self.events {
+            match event {
+                Event::Error if errors == error_room => ended = outcome::ERROR_ROOM,
+                Event::Node(_) if nodes == node_room => ended = outcome::NODE_ROOM,
+                Event::Level => ended = outcome::TOO_DEEP,
+                Event::Error => errors += 1,
+                Event::Node(_) => nodes += 1,
+                Event::Statement => {
+                    (statements, kept) = (statements + 1, nodes);
+                    so_far.push([errors as u32, nodes as u32]);
+                }
+            }
+            if ended > outcome::STOPPED {
+                break;
+            }
+        }
+        if ended == outcome::DONE {
+            // Behind the last one comes EOF.
+            so_far.pop();
+        }
+        let mut nodes = self.nodes[..kept].to_vec();
+        if let Some(last) = nodes.last_mut() {
+            // What came behind it isn't kept.
+            last[node::NEXT] = 0;
+        }
+        Answer {
+            outcome: ended,
+            tokens: lexed.tokens,
+            errors: self.errors[..errors].to_vec(),
+            nodes,
+            first: if statements == 0 { 0 } else { self.numbers[0] },
+            statements,
+            so_far,
+        }
+    }
+}

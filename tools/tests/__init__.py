@@ -1,0 +1,1 @@
+"""Tests of tools/proofs: python3 -m unittest discover -s tools/tests -t tools"""
