@@ -13,7 +13,8 @@ use Rattle.lexer.specs.declared.Item.{Item}
 use Rattle.lexer.specs.Items.{items}
 use Rattle.lexer.specs.Lex.{Result, emit, fresh, refusal, pickResult, lexed, lexedOf}
 use Rattle.parser.specs.Whole.{Parsed, parsed}
-use Rattle.reader.specs.Reading.{Reading, over, readAfter, reading}
+use Rattle.reader.specs.Entry.{over, enteredAfter}
+use Rattle.reader.specs.Reading.{Reading, readAfter, reading}
 use Rattle.whole.specs.Sizes.{SameReading}
 use Rattle.whole.proofs.Sizes.{reading-sizes, reading-read}
 use Rattle.blackout.specs.Blackout.{other, alike, Blackout}
@@ -48,7 +49,7 @@ parsed-same s r t e n a b h = ap (λ (d : Result). parsed (over (d .tokens) t) (
 -- the whole reading into the same tables: the same answer, and every word of all three
 pub reading-equal : (s r t e n : List ℕ) → Blackout s r → reading s t e n ≡ reading r t e n
 unfolding reading
-reading-equal s r t e n h = ap (λ (d : Result). readAfter d (over (d .tokens) t) (over (d .errors) e) n) (lexedOf-same s r (room tokenWidth t) (room errorWidth e) h)
+reading-equal s r t e n h = ap (λ (d : Result). readAfter (enteredAfter d t e n)) (lexedOf-same s r (room tokenWidth t) (room errorWidth e) h)
 
 -- DEMAND 3: the whole reading into equally large tables, whatever they held: the same outcome, counts, first statement and kept records
 pub reading-same : (s r t e n t′ e′ n′ : List ℕ) → Blackout s r → length t ≡ length t′ → length e ≡ length e′ → length n ≡ length n′ → SameReading (reading s t e n) (reading r t′ e′ n′)
@@ -66,4 +67,4 @@ beyond-same s r t e n h l =
     let b = room errorWidth e in
     let i : lexedOf s a b ≡ refusal 4 = simp (lt-ltb 65535 (length s) h) in
     let j : lexedOf r a b ≡ refusal 4 = simp (lt-ltb 65535 (length r) (omega arith)) in
-    ap (λ (d : Result). readAfter d (over (d .tokens) t) (over (d .errors) e) n) (i ∙ sym j)
+    ap (λ (d : Result). readAfter (enteredAfter d t e n)) (i ∙ sym j)

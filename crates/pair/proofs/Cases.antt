@@ -1,6 +1,6 @@
 -- The cases of the two calls, in the form that the code's facts have. Assumes nothing.
 use mathlib.Core.Path.{_≡_, refl, sym, ap, _∙_}
-use mathlib.Core.Bool.{Bool, true, false, not, _&&_, _||_}
+use mathlib.Core.Bool.{Bool, true, false, not, _&&_}
 use mathlib.Core.List.{List}
 use Prim.Native.Nat.{ℕ, zero, suc, _-_}
 use native.Mathlib.Omega.{arith}
@@ -8,7 +8,6 @@ use lib.Dec.{eqb, leb, ltb}
 use borrow.Author.Tests.{eq-eqb, ne-eqb}
 use Rattle.records.specs.Table.{room, linked, tokenWidth, errorWidth, nodeWidth}
 use Rattle.lexer.specs.declared.Scanned.{Scanned}
-use Rattle.lexer.specs.Lex.{lexedOf, Lexing}
 use Rattle.parser.specs.declared.State as state
 use Rattle.parser.specs.declared.Found.{Found}
 use Rattle.parser.specs.declared.Got.{Got}
@@ -17,6 +16,8 @@ use Rattle.parser.specs.Tokens.{kindAt}
 use Rattle.parser.specs.Tables.{Reply, reply}
 use Rattle.parser.specs.Grammar.{firstOf}
 use Rattle.parser.specs.Whole.{topLevel}
+use Rattle.reader.specs.Entry.{entered, Enters}
+use Rattle.reader.proofs.Entry.{stands-as}
 use Rattle.pair.specs.declared.Parser.{Parser}
 use Rattle.pair.specs.declared.Stepped.{Stepped}
 use Rattle.pair.specs.Pair.{Called, left, leaving, markedAs, final, pickCall, restOf, fresh, begunAfter, begun, noEof, onlyEof, within, fitsIn, refusedAs, stateOf, behind, stoppedAt, afterOne, oneOf, nextOf}
@@ -69,35 +70,22 @@ module _ (T : List ℕ) (p : Parser) (E N : List ℕ) (k : ℕ) (is : k ≡ kind
         (λ i. restOf T (record { current = q .current; loops = q .loops; tokens = p .tokens; errors = q .errors; nodes = q .nodes; first = h i; last = n .node; ended = 0; outcome = 19 }) E′ (l i)) ∙ sym (one-more n s)
 
 -- ---- after lexing
-module _ (o a b : ℕ) (T E N : List ℕ) where
-  -- the end was reached
-  pub begun-reads : o ≡ 0 → begunAfter o a b T E N ≡ restOf T (fresh a b) E N
-  begun-reads z =
-      ap (λ (x : Bool). pickCall x (λ _. restOf T (fresh a b) E N) λ _. pickCall (eqb o 3 || eqb o 4) (λ _. left (leaving (markedAs 1 o (fresh a b))) T E N) λ _. final o (fresh a b) T E N) (eq-eqb o 0 z)
+module _ (s t e n T E N : List ℕ) (d : Scanned) (l : Enters (entered s t e n) d T E N) where
+  -- by the test
+  begun-by : (b : Bool) → eqb (d .outcome) 0 ≡ b
+      → pickCall b (λ _. restOf T (fresh (d .tokens) (d .errors)) E N) (λ _. left (leaving (markedAs 1 (d .outcome) (fresh (d .tokens) (d .errors)))) T E N) ≡ begun s t e n
+  unfolding begun
+  begun-by b h =
+      ap (λ (x : Bool). pickCall x (λ _. restOf T (fresh (d .tokens) (d .errors)) E N) λ _. left (leaving (markedAs 1 (d .outcome) (fresh (d .tokens) (d .errors)))) T E N) (sym h)
+      ∙ ap begunAfter (stands-as (entered s t e n) d T E N l)
 
-  begun-refused : (o ≡ 0 → ⊥) → begunAfter o a b T E N ≡ pickCall (eqb o 3 || eqb o 4) (λ _. left (leaving (markedAs 1 o (fresh a b))) T E N) λ _. final o (fresh a b) T E N
-  begun-refused z =
-      ap (λ (x : Bool). pickCall x (λ _. restOf T (fresh a b) E N) λ _. pickCall (eqb o 3 || eqb o 4) (λ _. left (leaving (markedAs 1 o (fresh a b))) T E N) λ _. final o (fresh a b) T E N) (ne-eqb o 0 z)
+  -- what was lexed is read
+  pub begun-reads : d .outcome ≡ 0 → restOf T (fresh (d .tokens) (d .errors)) E N ≡ begun s t e n
+  begun-reads z = begun-by true (eq-eqb (d .outcome) 0 z)
 
-  -- after 3 and 4
-  pub begun-leaves : (o ≡ 0 → ⊥) → eqb o 3 || eqb o 4 ≡ true → begunAfter o a b T E N ≡ left (leaving (markedAs 1 o (fresh a b))) T E N
-  begun-leaves z u = begun-refused z ∙ ap (λ (x : Bool). pickCall x (λ _. left (leaving (markedAs 1 o (fresh a b))) T E N) λ _. final o (fresh a b) T E N) u
-
-  -- after any other
-  pub begun-clears : (o ≡ 0 → ⊥) → eqb o 3 || eqb o 4 ≡ false → begunAfter o a b T E N ≡ final o (fresh a b) T E N
-  begun-clears z u = begun-refused z ∙ ap (λ (x : Bool). pickCall x (λ _. left (leaving (markedAs 1 o (fresh a b))) T E N) λ _. final o (fresh a b) T E N) u
-
--- what the code lexed is what the definition lexes
-pub begun-lexed : (s t e n T E : List ℕ) (d : Scanned) → Lexing (lexedOf s (room tokenWidth t) (room errorWidth e)) d t T e E
-    → begunAfter (d .outcome) (d .tokens) (d .errors) T E n ≡ begun s t e n
-unfolding begun
-begun-lexed s t e n T E d l = λ i. begunAfter (l .outcome-is i) (l .tokens-are i) (l .errors-are i) (l .token-table i) (l .error-table i) n
-
--- lexing refused the source, and the node table is as it was
-pub begun-as-it-was : (s t e n T E : List ℕ) (d : Scanned) → Lexing (lexedOf s (room tokenWidth t) (room errorWidth e)) d t T e E → (d .outcome ≡ 0 → ⊥) → eqb (d .outcome) 3 || eqb (d .outcome) 4 ≡ true
-    → (m : Stepped) → m ≡ leaving (markedAs 1 (d .outcome) (fresh (d .tokens) (d .errors))) → left m T E n ≡ begun s t e n
-begun-as-it-was s t e n T E d l z u m h =
-    ap (λ (x : Stepped). left x T E n) h ∙ sym (begun-leaves (d .outcome) (d .tokens) (d .errors) T E n z u) ∙ begun-lexed s t e n T E d l
+  -- its outcome is the final answer
+  pub begun-ends : (d .outcome ≡ 0 → ⊥) → (m : Stepped) → m ≡ leaving (markedAs 1 (d .outcome) (fresh (d .tokens) (d .errors))) → left m T E N ≡ begun s t e n
+  begun-ends z m h = ap (λ (x : Stepped). left x T E N) h ∙ begun-by false (ne-eqb (d .outcome) 0 z)
 
 -- ---- the test
 -- an EOF at token k

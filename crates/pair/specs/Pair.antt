@@ -1,10 +1,9 @@
 -- One statement at a time, over a parser that the host keeps and lends: what `begin` and `read` give for any parser, any source and any tables.
 use Prim.Native.Nat.{ℕ, zero, suc}
-use mathlib.Core.Bool.{Bool, true, false, not, _&&_, _||_}
+use mathlib.Core.Bool.{Bool, true, false, not, _&&_}
 use mathlib.Core.List.{List}
 use lib.Dec.{eqb, leb, ltb}
 use Rattle.records.specs.Table.{room, linked, zeroed, tokenWidth, errorWidth, nodeWidth}
-use Rattle.lexer.specs.Lex.{Result, lexedOf}
 use Rattle.parser.specs.declared.State as state
 use Rattle.parser.specs.declared.Got.the-variants.{Node, Stop}
 use Rattle.parser.specs.Tokens.{kindAt}
@@ -12,7 +11,7 @@ use Rattle.parser.specs.Tables.{Reply, reply}
 use Rattle.parser.specs.Grammar.{firstOf}
 use Rattle.parser.specs.Whole.{topLevel}
 use Rattle.reader.specs.declared.Answer.{Answer}
-use Rattle.reader.specs.Reading.{over}
+use Rattle.reader.specs.Entry.{Entered, entered}
 use Rattle.pair.specs.declared.Parser.{Parser}
 use Rattle.pair.specs.declared.Stepped.{Stepped}
 
@@ -57,19 +56,15 @@ restOf T p E N = pickCall (eqb (kindAt T (p .current)) 0) (λ _. final 0 p T E N
 abbrev pub fresh : ℕ → ℕ → Parser
 fresh tokens errors = record { current = 0; loops = 0; tokens = tokens; errors = errors; nodes = 0; first = 0; last = 0; ended = 0; outcome = 19 }
 
--- by the outcome and the counts of lexing: it reached the end, or its outcome is the final answer. After 3 and 4 the node table is unchanged, after 2, 5 and 6
--- every word of it is 0
-abbrev pub begunAfter : ℕ → ℕ → ℕ → List ℕ → List ℕ → List ℕ → Called
-begunAfter outcome tokens errors T E N =
-    pickCall (eqb outcome 0) (λ _. restOf T (fresh tokens errors) E N) λ _.
-    pickCall (eqb outcome 3 || eqb outcome 4) (λ _. left (leaving (markedAs 1 outcome (fresh tokens errors))) T E N) λ _.
-    final outcome (fresh tokens errors) T E N
+-- what stands when lexing is over is read, a statement at a time; or its outcome is the final answer
+abbrev pub begunAfter : Entered → Called
+begunAfter d =
+    pickCall (eqb (d .outcome) 0) (λ _. restOf (d .tokens) (fresh (d .tokenCount) (d .errorCount)) (d .errors) (d .nodes)) λ _.
+    left (leaving (markedAs 1 (d .outcome) (fresh (d .tokenCount) (d .errorCount)))) (d .tokens) (d .errors) (d .nodes)
 
 -- `begin`, of any source into tables t, e and n: what the parser was does not matter
 unfoldable pub begun : List ℕ → List ℕ → List ℕ → List ℕ → Called
-begun s t e n =
-    let d = lexedOf s (room tokenWidth t) (room errorWidth e) in
-    begunAfter (d .outcome) (d .tokenCount) (d .errorCount) (over (d .tokens) t) (over (d .errors) e) n
+begun s t e n = begunAfter (entered s t e n)
 
 -- ---- read
 -- none of the first n tokens is EOF

@@ -198,7 +198,7 @@ pub fn start(
         × (now (errors .exit) ≡ begun (now (source .entry)) (now (tokens .entry)) (now (errors .entry)) (now (nodes .entry)) .errors)
         × (now (nodes .exit) ≡ begun (now (source .entry)) (now (tokens .entry)) (now (errors .entry)) (now (nodes .entry)) .nodes) ⌝ }
 {
-    let d = lexer::scan(source, tokens, errors);
+    let d = reader::enter(source, tokens, errors, nodes);
     let p = Parser {
         current: 0,
         loops: 0,
@@ -212,9 +212,6 @@ pub fn start(
     };
     if d.outcome == 0 {
         return rest(tokens, nodes, p);
-    }
-    if (d.outcome != 3) & (d.outcome != 4) {
-        return finish(nodes, p, d.outcome);
     }
     mark(p, 1, d.outcome)
 }

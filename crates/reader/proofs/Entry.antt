@@ -1,102 +1,97 @@
--- The entry from bytes to tables: a lexing and then a parsing, or a refusal, as the code joins them, make a reading. And a promise allows one
--- answer only. Assumes nothing.
+-- From bytes to tables, as the code joins it: a lexing and what is done to the node table make the entry, and the entry with or without a parsing makes a reading. Assumes nothing.
 use mathlib.Core.Path.{_≡_, refl, sym, ap, subst, _∙_}
-use mathlib.Core.Bool.{Bool, true, false, not, _&&_, _||_}
+use mathlib.Core.Bool.{Bool, true, false, not, cond, _&&_, _||_}
 use mathlib.Core.List.{List}
 use Prim.Native.Nat.{ℕ}
 use lib.Dec.{eqb}
 use borrow.Author.Tests.{eq-eqb, ne-eqb, not-true, not-false}
 use Rattle.records.specs.Table.{room, zeroed, tokenWidth, errorWidth, nodeWidth}
 use Rattle.lexer.specs.declared.Scanned.{Scanned}
-use Rattle.lexer.specs.Lex.{Result, lexedOf, Lexing}
+use Rattle.lexer.specs.Lex.{lexedOf, Lexing}
 use Rattle.parser.specs.declared.Parsed as answers
-use Rattle.parser.specs.Whole.{Parsed, parsed, Parsing}
+use Rattle.parser.specs.Whole.{parsed, Parsing}
 use Rattle.reader.specs.declared.Answer.{Answer}
-use Rattle.reader.specs.Reading.{Reading, over, refused, joined, pickReading, readAfter, reading, Answers, unread}
+use Rattle.reader.specs.Entry.{Entered, unread, nodesAfter, entered, Enters}
+use Rattle.reader.specs.Reading.{refused, joined, pickReading, readAfter, reading, Answers}
 
--- the code asks whether an outcome is neither 3 nor 4
-pub neither : (o : ℕ) → not (eqb o 3) && not (eqb o 4) ≡ true → unread o ≡ false
-neither o = at (eqb o 3) (eqb o 4)
-  where
-    at : (a b : Bool) → not a && not b ≡ true → a || b ≡ false
-    at true b h = sym h
-    at false b h = not-true b h
+-- ---- the entry
+-- the code asks whether an outcome is none of 0, 3 and 4
+abbrev other : ℕ → Bool
+other o = (not (eqb o 0) && not (eqb o 3)) && not (eqb o 4)
 
-pub either : (o : ℕ) → not (eqb o 3) && not (eqb o 4) ≡ false → unread o ≡ true
-either o = at (eqb o 3) (eqb o 4)
+is-other : (o : ℕ) → other o ≡ true → eqb o 0 || unread o ≡ false
+is-other o = at (eqb o 0) (eqb o 3) (eqb o 4)
   where
-    at : (a b : Bool) → not a && not b ≡ false → a || b ≡ true
-    at true b h = refl
-    at false b h = not-false b h
+    at : (a b c : Bool) → (not a && not b) && not c ≡ true → a || (b || c) ≡ false
+    at true b c h = sym h
+    at false true c h = sym h
+    at false false c h = not-true c h
+
+is-kept : (o : ℕ) → other o ≡ false → eqb o 0 || unread o ≡ true
+is-kept o = at (eqb o 0) (eqb o 3) (eqb o 4)
+  where
+    at : (a b c : Bool) → (not a && not b) && not c ≡ false → a || (b || c) ≡ true
+    at true b c h = refl
+    at false true c h = refl
+    at false false c h = not-false c h
 
 module _ (s t e n T E : List ℕ) (d : Scanned) (l : Lexing (lexedOf s (room tokenWidth t) (room errorWidth e)) d t T e E) where
-  -- what the definition lexes
-  abbrev lex : Result
-  lex = lexedOf s (room tokenWidth t) (room errorWidth e)
-
-  -- what is parsed then, where it is
-  abbrev then : Reading
-  then = joined (lex .tokenCount) (over (lex .tokens) t) (parsed (over (lex .tokens) t) (lex .errorCount) (over (lex .errors) e) n)
-
-  -- the answers of a reading by its two tests
-  by : (x y : Bool) (r : Answer) (T′ E′ N′ : List ℕ) → eqb (d .outcome) 0 ≡ x → unread (d .outcome) ≡ y
-      → Answers
-      (pickReading x (λ _. then) λ _. pickReading y (λ _. refused lex (over (lex .tokens) t) (over (lex .errors) e) n) λ _. refused lex (over (lex .tokens) t) (over (lex .errors) e) (zeroed nodeWidth n 0))
-      r T′ E′ N′
-      → Answers (reading s t e n) r T′ E′ N′
-  unfolding reading
-  by x y r T′ E′ N′ p q a =
-      let o = l .outcome-is in
-      subst
-      (λ (z : Bool). Answers
-      (pickReading z (λ _. then) λ _. pickReading (unread (lex .outcome)) (λ _. refused lex (over (lex .tokens) t) (over (lex .errors) e) n) λ _. refused lex (over (lex .tokens) t) (over (lex .errors) e) (zeroed nodeWidth n 0))
-      r T′ E′ N′)
-      (sym p ∙ ap (λ (k : ℕ). eqb k 0) o)
-      (subst
-      (λ (z : Bool). Answers
-      (pickReading x (λ _. then) λ _. pickReading z (λ _. refused lex (over (lex .tokens) t) (over (lex .errors) e) n) λ _. refused lex (over (lex .tokens) t) (over (lex .errors) e) (zeroed nodeWidth n 0))
-      r T′ E′ N′)
-      (sym q ∙ ap unread o) a)
-
-  -- the lexing reached the end, and parsing decides
-  pub goes-on : (p : answers.Parsed) (E′ N′ : List ℕ) → d .outcome ≡ 0 → Parsing (parsed T (d .errors) E n) p E′ N′
-      → Answers (reading s t e n) (record { outcome = p .outcome; tokens = d .tokens; errors = p .errors; nodes = p .nodes; first = p .first }) T E′ N′
-  goes-on p E′ N′ z a =
-      let h = l .tokens-are in
-      let i : T ≡ over (lex .tokens) t = l .token-table in
-      let q : parsed T (d .errors) E n ≡ parsed (over (lex .tokens) t) (lex .errorCount) (over (lex .errors) e) n = cc in
-      by true (unread (d .outcome)) _ T E′ N′ (eq-eqb (d .outcome) 0 z) refl
-      (record {
-        outcome-is = a .outcome-is ∙ ap (λ (x : Parsed). x .outcome) q;
-        tokens-are = h;
-        errors-are = a .errors-are ∙ ap (λ (x : Parsed). x .errorCount) q;
-        nodes-are = a .nodes-are ∙ ap (λ (x : Parsed). x .nodeCount) q;
-        first-is = a .first-is ∙ ap (λ (x : Parsed). x .first) q;
-        token-table = i;
-        error-table = a .error-table ∙ ap (λ (x : Parsed). x .errors) q;
-        node-table = a .node-table ∙ ap (λ (x : Parsed). x .nodes) q;
-      })
-
-  -- a refusal, with the node table that it leaves
-  ends : (N N′ : List ℕ) → N′ ≡ N → Answers (refused lex (over (lex .tokens) t) (over (lex .errors) e) N) (record { outcome = d .outcome; tokens = d .tokens; errors = d .errors; nodes = 0; first = 0 }) T E N′
-  ends N N′ h =
+  -- with the node table that the outcome asks for
+  stands : (N : List ℕ) → N ≡ nodesAfter (d .outcome) n → Enters (entered s t e n) d T E N
+  stands N h =
       record {
         outcome-is = l .outcome-is;
         tokens-are = l .tokens-are;
         errors-are = l .errors-are;
-        nodes-are = refl;
-        first-is = refl;
         token-table = l .token-table;
         error-table = l .error-table;
-        node-table = h;
+        node-table = h ∙ ap (λ (o : ℕ). nodesAfter o n) (l .outcome-is);
       }
 
-  -- after 3 and 4 the node table is as it was
-  pub leaves : (d .outcome ≡ 0 → ⊥) → unread (d .outcome) ≡ true
-      → Answers (reading s t e n) (record { outcome = d .outcome; tokens = d .tokens; errors = d .errors; nodes = 0; first = 0 }) T E n
-  leaves z u = by false true _ T E n (ne-eqb (d .outcome) 0 z) u (ends n n refl)
+  -- the node table is as it was
+  pub leaves : other (d .outcome) ≡ false → Enters (entered s t e n) d T E n
+  leaves u = stands n (ap (λ (b : Bool). cond b n (zeroed nodeWidth n 0)) (sym (is-kept (d .outcome) u)))
 
-  -- after the others it is all zeros
-  pub clears : (N′ : List ℕ) → (d .outcome ≡ 0 → ⊥) → unread (d .outcome) ≡ false → N′ ≡ zeroed nodeWidth n 0
-      → Answers (reading s t e n) (record { outcome = d .outcome; tokens = d .tokens; errors = d .errors; nodes = 0; first = 0 }) T E N′
-  clears N′ z u h = by false false _ T E N′ (ne-eqb (d .outcome) 0 z) u (ends (zeroed nodeWidth n 0) N′ h)
+  -- it is all zeros
+  pub clears : (N : List ℕ) → other (d .outcome) ≡ true → N ≡ zeroed nodeWidth n 0 → Enters (entered s t e n) d T E N
+  clears N u h = stands N (h ∙ ap (λ (b : Bool). cond b n (zeroed nodeWidth n 0)) (sym (is-other (d .outcome) u)))
+
+-- ---- what the code has stands
+abbrev pub standing : Scanned → List ℕ → List ℕ → List ℕ → Entered
+standing d T E N = record { outcome = d .outcome; tokenCount = d .tokens; errorCount = d .errors; tokens = T; errors = E; nodes = N }
+
+pub stands-as : (x : Entered) (d : Scanned) (T E N : List ℕ) → Enters x d T E N → standing d T E N ≡ x
+stands-as x d T E N l = λ i. record { outcome = l .outcome-is i; tokenCount = l .tokens-are i; errorCount = l .errors-are i; tokens = l .token-table i; errors = l .error-table i; nodes = l .node-table i }
+
+-- ---- the reading
+module _ (s t e n T E N : List ℕ) (d : Scanned) (l : Enters (entered s t e n) d T E N) where
+  -- by its test
+  by : (b : Bool) (r : Answer) (E′ N′ : List ℕ) → eqb (d .outcome) 0 ≡ b
+      → Answers (pickReading b (λ _. joined (d .tokens) T (parsed T (d .errors) E N)) λ _. refused (standing d T E N)) r T E′ N′
+      → Answers (reading s t e n) r T E′ N′
+  unfolding reading
+  by b r E′ N′ p a =
+      subst (λ (x : Entered). Answers (readAfter x) r T E′ N′) (stands-as (entered s t e n) d T E N l)
+      (subst (λ (z : Bool). Answers (pickReading z (λ _. joined (d .tokens) T (parsed T (d .errors) E N)) λ _. refused (standing d T E N)) r T E′ N′) (sym p) a)
+
+  -- what was lexed is parsed, and parsing decides
+  pub goes-on : (p : answers.Parsed) (E′ N′ : List ℕ) → d .outcome ≡ 0 → Parsing (parsed T (d .errors) E N) p E′ N′
+      → Answers (reading s t e n) (record { outcome = p .outcome; tokens = d .tokens; errors = p .errors; nodes = p .nodes; first = p .first }) T E′ N′
+  goes-on p E′ N′ z a =
+      by true _ E′ N′ (eq-eqb (d .outcome) 0 z)
+      (record {
+        outcome-is = a .outcome-is;
+        tokens-are = refl;
+        errors-are = a .errors-are;
+        nodes-are = a .nodes-are;
+        first-is = a .first-is;
+        token-table = refl;
+        error-table = a .error-table;
+        node-table = a .node-table;
+      })
+
+  -- it is the answer
+  pub ends : (d .outcome ≡ 0 → ⊥) → Answers (reading s t e n) (record { outcome = d .outcome; tokens = d .tokens; errors = d .errors; nodes = 0; first = 0 }) T E N
+  ends z =
+      by false _ E N (ne-eqb (d .outcome) 0 z)
+      (record { outcome-is = refl; tokens-are = refl; errors-are = refl; nodes-are = refl; first-is = refl; token-table = refl; error-table = refl; node-table = refl })

@@ -3,6 +3,7 @@ ghost use lib.ListN.{length};
 ghost use Rattle.records.specs.Table.{room, tokenWidth, errorWidth};
 ghost use Rattle.lexer.specs.Lex.{lexedOf, Lexing};
 ghost use Rattle.strings.specs.Strings.{decodeOf, Decoding};
+ghost use Rattle.reader.specs.Entry.{entered, Enters};
 ghost use Rattle.reader.specs.Reading.{reading, Answers};
 use lexer::Scanned;
 use strings::Decoded;
@@ -17,13 +18,25 @@ pub struct Answer {
     pub first: u32,
 }
 
-// Reads a source into the three tables. What was lexed to its end is parsed, also if errors were recorded. Else no node is kept: after 3 and
-// 4 the node table is as it was, after any other refusal it is all zeros.
+// The step from lexing to parsing: `read` begins with it, and the reading of a statement at a time. With outcome 0 what was lexed is to be parsed, also if
+// errors were recorded. Any other ends the reading: after 3 and 4 the node table is as it was, else it is all zeros.
+pub fn enter(source: &[u8], tokens: &mut [u32], errors: &mut [u32], nodes: &mut [u32]) -> Scanned
+    ensures { λ r. ⌜ Enters (entered (now (source .entry)) (now (tokens .entry)) (now (errors .entry)) (now (nodes .entry)))
+        r (now (tokens .exit)) (now (errors .exit)) (now (nodes .exit)) ⌝ }
+{
+    let d = lexer::scan(source, tokens, errors);
+    if (d.outcome != 0) & (d.outcome != 3) & (d.outcome != 4) {
+        records::zero_rest(nodes, 0);
+    }
+    d
+}
+
+// Reads a source into the three tables. Where it is not parsed no node is kept.
 pub fn read(source: &[u8], tokens: &mut [u32], errors: &mut [u32], nodes: &mut [u32]) -> Answer
     ensures { λ r. ⌜ Answers (reading (now (source .entry)) (now (tokens .entry)) (now (errors .entry)) (now (nodes .entry)))
         r (now (tokens .exit)) (now (errors .exit)) (now (nodes .exit)) ⌝ }
 {
-    let d = lexer::scan(source, tokens, errors);
+    let d = enter(source, tokens, errors, nodes);
     if d.outcome == 0 {
         let p = statements::parse(tokens, errors, nodes, d.errors);
         return Answer {
@@ -33,9 +46,6 @@ pub fn read(source: &[u8], tokens: &mut [u32], errors: &mut [u32], nodes: &mut [
             nodes: p.nodes,
             first: p.first,
         };
-    }
-    if (d.outcome != 3) & (d.outcome != 4) {
-        records::zero_rest(nodes, 0);
     }
     Answer {
         outcome: d.outcome,

@@ -1,6 +1,6 @@
 -- What begin leaves fits, so that calls from begin on answer 19 until the final answer is given, and never 18; and it comes. Assumes nothing.
 use mathlib.Core.Path.{_≡_, refl, sym, ap, subst, _∙_}
-use mathlib.Core.Bool.{Bool, true, false, not, _&&_, _||_}
+use mathlib.Core.Bool.{Bool, true, false, not, _&&_}
 use mathlib.Core.List.{List, _++_}
 use mathlib.Core.Logic.{_⊎_, inl, inr}
 use Prim.Native.Nat.{ℕ, zero, suc, _+_, _*_, _≤_, _<_}
@@ -10,7 +10,7 @@ use lib.ListN.{length, getD, drop, length-append, List·getD-append}
 use lib.Seq.{getD-append-add}
 use borrow.Author.Tests.{eqb-true, eq-eqb, ne-eqb}
 use Rattle.text.specs.Text.{isText}
-use Rattle.records.specs.Table.{room, tokenWidth, errorWidth, nodeWidth}
+use Rattle.records.specs.Table.{room, tokenWidth, errorWidth}
 use Rattle.records.specs.Words.{tokenWords}
 use Rattle.records.specs.Rows.{Rows}
 use Rattle.records.specs.declared.TokenData.{TokenData}
@@ -22,9 +22,8 @@ use Rattle.lexing.specs.Kept.{Good, Eof, Ending, whole, short, Keeps}
 use Rattle.lexing.proofs.Kept.{lexed-keeps}
 use Rattle.lexing.proofs.Answer.{token-count, tokens-within, errors-within}
 use Rattle.parser.specs.Tokens.{kindAt}
-use Rattle.reader.specs.Reading.{over}
+use Rattle.reader.specs.Entry.{Entered, over, entered}
 use Rattle.whole.proofs.Sizes.{over-keeps}
-use Rattle.pair.specs.declared.Parser.{Parser}
 use Rattle.pair.specs.Pair.{Called, left, leaving, markedAs, final, pickCall, restOf, fresh, begun, noEof, onlyEof, nexts}
 use Rattle.turns.proofs.Steady as steady
 use Rattle.turns.proofs.Steady.{Fit, Steady, going, rest-steady, reads-steady, steady-ends}
@@ -87,7 +86,7 @@ lexed-only n r t z (whole ws m d o rows le eof is count) h =
 lexed-only n r t z (short ne rows le) h = absurd (ne z)
 
 -- the parser that begin leaves where the end was reached
-fresh-fit : (s t e n : List ℕ) → let d = lexedOf s (room tokenWidth t) (room errorWidth e) in d .outcome ≡ 0 → Fit (over (d .tokens) t) (over (d .errors) e) n (fresh (d .tokenCount) (d .errorCount))
+fresh-fit : (s t e n : List ℕ) → let d = entered s t e n in d .outcome ≡ 0 → Fit (d .tokens) (d .errors) (d .nodes) (fresh (d .tokenCount) (d .errorCount))
 fresh-fit s t e n z =
     let d = lexedOf s (room tokenWidth t) (room errorWidth e) in
     let k = lexed-whole s (room tokenWidth t) (room errorWidth e) z in
@@ -102,18 +101,16 @@ one-not h = omega (arith, h)
 
 begun-steady : (s t e n : List ℕ) → Steady (length s + 2) 0 (begun s t e n)
 unfolding begun
-begun-steady s t e n = at (eqb (d .outcome) 0) refl (eqb (d .outcome) 3 || eqb (d .outcome) 4)
+begun-steady s t e n = at (eqb (d .outcome) 0) refl
   where
-    d : Result
-    d = lexedOf s (room tokenWidth t) (room errorWidth e)
+    d : Entered
+    d = entered s t e n
 
-    at : (x : Bool) → eqb (d .outcome) 0 ≡ x → (y : Bool) → Steady (length s + 2) 0
-        (pickCall x (λ _. restOf (over (d .tokens) t) (fresh (d .tokenCount) (d .errorCount)) (over (d .errors) e) n) λ _.
-        pickCall y (λ _. left (leaving (markedAs 1 (d .outcome) (fresh (d .tokenCount) (d .errorCount)))) (over (d .tokens) t) (over (d .errors) e) n) λ _.
-        final (d .outcome) (fresh (d .tokenCount) (d .errorCount)) (over (d .tokens) t) (over (d .errors) e) n)
-    at true h y = rest-steady (length s + 2) 0 (over (d .tokens) t) (fresh (d .tokenCount) (d .errorCount)) (over (d .errors) e) n (fresh-fit s t e n (eqb-true (d .outcome) 0 h)) (token-count s (room tokenWidth t) (room errorWidth e)) (omega arith)
-    at false h true = steady.over _ one-not
-    at false h false = steady.over _ one-not
+    at : (x : Bool) → eqb (d .outcome) 0 ≡ x → Steady (length s + 2) 0
+        (pickCall x (λ _. restOf (d .tokens) (fresh (d .tokenCount) (d .errorCount)) (d .errors) (d .nodes)) λ _.
+        left (leaving (markedAs 1 (d .outcome) (fresh (d .tokenCount) (d .errorCount)))) (d .tokens) (d .errors) (d .nodes))
+    at true h = rest-steady (length s + 2) 0 (d .tokens) (fresh (d .tokenCount) (d .errorCount)) (d .errors) (d .nodes) (fresh-fit s t e n (eqb-true (d .outcome) 0 h)) (token-count s (room tokenWidth t) (room errorWidth e)) (omega arith)
+    at false h = steady.over _ one-not
 
 -- a call that stands so gave the final answer, or answers 19
 steady-answers : (b j : ℕ) (c : Called) → Steady b j c → (c .stepped .parser .ended ≡ 0 → ⊥) ⊎ (c .stepped .answer .outcome ≡ 19)

@@ -1,13 +1,12 @@
 -- Calls one after the other: where a final answer is given, it and the tables are what the whole reading yields, and every read after it gives the same.
 -- Assumes nothing.
 use mathlib.Core.Path.{_≡_, refl, sym, ap, subst, _∙_}
-use mathlib.Core.Bool.{Bool, true, false, _||_}
+use mathlib.Core.Bool.{Bool, true, false}
 use mathlib.Core.List.{List}
 use Prim.Native.Nat.{ℕ, zero, suc, _-_, _≤_, _<_}
 use native.Mathlib.Omega.{arith}
 use lib.Dec.{eqb}
-use Rattle.records.specs.Table.{room, linked, zeroed, tokenWidth, errorWidth, nodeWidth}
-use Rattle.lexer.specs.Lex.{Result, lexedOf}
+use Rattle.records.specs.Table.{linked, zeroed, nodeWidth}
 use Rattle.parser.specs.declared.Got.the-variants.{Node, Stop}
 use Rattle.parser.specs.Tokens.{count, kindAt}
 use Rattle.parser.specs.Tables.{Reply, reply}
@@ -16,9 +15,10 @@ use Rattle.parser.specs.Whole.{Parsed, ends, topLevel, statements, parsed}
 use Rattle.statements.proofs.TopLevel.{at-end, stops, goes-on, statement-past}
 use Rattle.reader.specs.declared.Answer.{Answer}
 use Rattle.whole.proofs.Outcome.{reading-outcome}
-use Rattle.reader.specs.Reading.{Reading, over, refused, joined, pickReading, reading, Answers}
+use Rattle.reader.specs.Entry.{Entered, entered}
+use Rattle.reader.specs.Reading.{Reading, refused, joined, pickReading, reading, Answers}
 use Rattle.pair.specs.declared.Parser.{Parser}
-use Rattle.pair.specs.Pair.{Called, left, held, leaving, markedAs, final, pickCall, restOf, fresh, begun, fitsIn, refusedAs, stateOf, behind, stoppedAt, afterOne, oneOf, nextOf, next, nexts}
+use Rattle.pair.specs.Pair.{Called, left, held, leaving, markedAs, final, pickCall, restOf, fresh, begun, fitsIn, stateOf, behind, stoppedAt, afterOne, oneOf, nextOf, next, nexts}
 use Rattle.pair.proofs.Cases.{next-again, next-refuses, next-goes-on}
 
 -- how a call stands to the whole reading R: it gave the final answer, and all is as R has it; or the statements that are left make R, with fuel for a turn
@@ -95,26 +95,20 @@ next-stands : (R : Reading) (c : Called) → Stands R c → Stands R (next c)
 next-stands R _ (done p T E N z a) = subst (Stands R) (next-again T E N p z) (done p T E N z a)
 next-stands R _ (on r p T E N f z enough e) = next-by R T p E N f enough e z (fitsIn T E N p) refl
 
--- after lexing, by its two tests
-begin-stands : (d : Result) (T E N : List ℕ) (x y : Bool) → Stands
-    (pickReading x (λ _. joined (d .tokenCount) T (parsed T (d .errorCount) E N)) λ _. pickReading y (λ _. refused d T E N) λ _. refused d T E (zeroed nodeWidth N 0))
-    (pickCall x (λ _. restOf T (fresh (d .tokenCount) (d .errorCount)) E N) λ _.
-    pickCall y (λ _. left (leaving (markedAs 1 (d .outcome) (fresh (d .tokenCount) (d .errorCount)))) T E N) λ _.
-    final (d .outcome) (fresh (d .tokenCount) (d .errorCount)) T E N)
+-- after lexing, by its test
+begin-stands : (d : Entered) (x : Bool) → Stands
+    (pickReading x (λ _. joined (d .tokenCount) (d .tokens) (parsed (d .tokens) (d .errorCount) (d .errors) (d .nodes))) λ _. refused d)
+    (pickCall x (λ _. restOf (d .tokens) (fresh (d .tokenCount) (d .errorCount)) (d .errors) (d .nodes)) λ _.
+    left (leaving (markedAs 1 (d .outcome) (fresh (d .tokenCount) (d .errorCount)))) (d .tokens) (d .errors) (d .nodes))
 unfolding parsed
-begin-stands d T E N true y = rests _ T (fresh (d .tokenCount) (d .errorCount)) E N (count T) (omega arith) refl
-begin-stands d T E N false true =
-    done (markedAs 1 (d .outcome) (fresh (d .tokenCount) (d .errorCount))) T E N one-not
-    (record { outcome-is = refl; tokens-are = refl; errors-are = refl; nodes-are = refl; first-is = refl; token-table = refl; error-table = refl; node-table = refl })
-begin-stands d T E N false false =
-    done (markedAs 1 (d .outcome) (fresh (d .tokenCount) (d .errorCount))) T E (zeroed nodeWidth N 0) one-not
+begin-stands d true = rests _ (d .tokens) (fresh (d .tokenCount) (d .errorCount)) (d .errors) (d .nodes) (count (d .tokens)) (omega arith) refl
+begin-stands d false =
+    done (markedAs 1 (d .outcome) (fresh (d .tokenCount) (d .errorCount))) (d .tokens) (d .errors) (d .nodes) one-not
     (record { outcome-is = refl; tokens-are = refl; errors-are = refl; nodes-are = refl; first-is = refl; token-table = refl; error-table = refl; node-table = refl })
 
 begun-stands : (s t e n : List ℕ) → Stands (reading s t e n) (begun s t e n)
 unfolding begun reading
-begun-stands s t e n =
-    let d = lexedOf s (room tokenWidth t) (room errorWidth e) in
-    begin-stands d (over (d .tokens) t) (over (d .errors) e) n (eqb (d .outcome) 0) (eqb (d .outcome) 3 || eqb (d .outcome) 4)
+begun-stands s t e n = begin-stands (entered s t e n) (eqb (entered s t e n .outcome) 0)
 
 reads-stand : (R : Reading) (k : ℕ) (c : Called) → Stands R c → Stands R (nexts k c)
 unfolding nexts

@@ -1,5 +1,5 @@
 -- A reading ends with one of document 01's outcomes 0 to 8. Assumes nothing.
-use mathlib.Core.Path.{_≡_, refl, sym, subst}
+use mathlib.Core.Path.{_≡_, refl}
 use mathlib.Core.Bool.{Bool, true, false, not, _&&_, _||_}
 use mathlib.Core.List.{List, [], _∷_}
 use Prim.Native.Nat.{ℕ, _≤_}
@@ -8,7 +8,7 @@ use borrow.Author.Tests.{eqb-true}
 use lib.Dec.{ltb, eqb}
 use lib.ListN.{length}
 use Rattle.text.specs.Text.{isText}
-use Rattle.records.specs.Table.{room, zeroed, tokenWidth, errorWidth, nodeWidth}
+use Rattle.records.specs.Table.{room, tokenWidth, errorWidth}
 use Rattle.lexer.specs.declared.Item.{Item}
 use Rattle.lexer.specs.declared.Item.the-variants.{Space, Comment, Name, Text, Number, Mark, Wrong}
 use Rattle.lexer.specs.Items.{items}
@@ -16,7 +16,8 @@ use Rattle.lexer.specs.Lex.{State, Result, Onward, go, stop, pickOnward, kept, 
 use Rattle.parser.specs.Whole.{parsed}
 use Rattle.parsing.specs.Ahead.{isOutcome}
 use Rattle.parsing.proofs.Ahead.{parsed-outcome}
-use Rattle.reader.specs.Reading.{over, refused, joined, pickReading, readAfter, reading}
+use Rattle.reader.specs.Entry.{over, nodesAfter, enteredAfter}
+use Rattle.reader.specs.Reading.{refused, joined, pickReading, readAfter, reading}
 
 -- where a lexing stops, it is with such an outcome
 abbrev Low : Onward → Type 0
@@ -82,8 +83,8 @@ pub reading-outcome : (s t e n : List ℕ) → reading s t e n .outcome ≤ 8
 unfolding reading
 reading-outcome s t e n = after (lexedOf s (room tokenWidth t) (room errorWidth e)) (lexed-low s (room tokenWidth t) (room errorWidth e))
   where
-    after : (d : Result) → d .outcome ≤ 8 → readAfter d (over (d .tokens) t) (over (d .errors) e) n .outcome ≤ 8
-    after d l = at (eqb (d .outcome) 0) (eqb (d .outcome) 3 || eqb (d .outcome) 4)
+    after : (d : Result) → d .outcome ≤ 8 → readAfter (enteredAfter d t e n) .outcome ≤ 8
+    after d l = at (eqb (d .outcome) 0)
       where
         T : List ℕ
         T = over (d .tokens) t
@@ -91,7 +92,9 @@ reading-outcome s t e n = after (lexedOf s (room tokenWidth t) (room errorWidth 
         E : List ℕ
         E = over (d .errors) e
 
-        at : (x y : Bool) → pickReading x (λ _. joined (d .tokenCount) T (parsed T (d .errorCount) E n)) (λ _. pickReading y (λ _. refused d T E n) λ _. refused d T E (zeroed nodeWidth n 0)) .outcome ≤ 8
-        at true y = parsed-low (parsed T (d .errorCount) E n .outcome) (parsed-outcome T (d .errorCount) E n)
-        at false true = l
-        at false false = l
+        N : List ℕ
+        N = nodesAfter (d .outcome) n
+
+        at : (x : Bool) → pickReading x (λ _. joined (d .tokenCount) T (parsed T (d .errorCount) E N)) (λ _. refused (enteredAfter d t e n)) .outcome ≤ 8
+        at true = parsed-low (parsed T (d .errorCount) E N .outcome) (parsed-outcome T (d .errorCount) E N)
+        at false = l

@@ -1,5 +1,5 @@
 -- The counts of a reading keep to the tables' rooms. Assumes nothing.
-use mathlib.Core.Path.{_≡_, refl, sym, ap, subst, _∙_}
+use mathlib.Core.Path.{_≡_, sym, subst, _∙_}
 use mathlib.Core.Bool.{Bool, true, false, not}
 use mathlib.Core.List.{List}
 use Prim.Native.Nat.{ℕ, _≤_}
@@ -7,16 +7,17 @@ use native.Mathlib.Omega.{arith}
 use lib.Dec.{ltb, eqb}
 use lib.ListN.{length}
 use Rattle.text.specs.Text.{isText}
-use Rattle.records.specs.Table.{room, zeroed, tokenWidth, errorWidth, nodeWidth}
+use Rattle.records.specs.Table.{room, tokenWidth, errorWidth, nodeWidth}
 use Rattle.records.proofs.Room.{room-length}
 use Rattle.lexer.specs.Lex.{Result, refusal, pickResult, lexed, lexedOf}
 use Rattle.lexing.proofs.Kept.{lexed-keeps}
 use Rattle.lexing.proofs.Answer.{errors-within}
 use Rattle.parser.specs.Whole.{parsed}
 use Rattle.parsing.proofs.Frame.{parsed-errors-kept, parsed-nodes-within}
-use Rattle.reader.specs.Reading.{over, refused, joined, pickReading, readAfter, reading, unread}
+use Rattle.reader.specs.Entry.{over, nodesAfter, enteredAfter}
+use Rattle.reader.specs.Reading.{refused, joined, pickReading, readAfter, reading}
 use Rattle.whole.specs.Sizes.{Within}
-use Rattle.whole.proofs.Sizes.{over-keeps}
+use Rattle.whole.proofs.Sizes.{over-keeps, after-long}
 
 -- of a lexing
 lexed-rooms : (s : List ℕ) (a b : ℕ) → (lexedOf s a b .tokenCount ≤ a) × (lexedOf s a b .errorCount ≤ b)
@@ -35,23 +36,24 @@ module _ (d : Result) (t e n : List ℕ) (ht : d .tokenCount ≤ room tokenWidth
   abbrev E : List ℕ
   E = over (d .errors) e
 
-  after-rooms : Within t e n (readAfter d T E n)
-  after-rooms = at (eqb (d .outcome) 0) (unread (d .outcome))
+  abbrev N : List ℕ
+  N = nodesAfter (d .outcome) n
+
+  after-rooms : Within t e n (readAfter (enteredAfter d t e n))
+  after-rooms = at (eqb (d .outcome) 0)
     where
-      at : (x y : Bool)
-          → Within t e n (pickReading x (λ _. joined (d .tokenCount) T (parsed T (d .errorCount) E n)) λ _. pickReading y (λ _. refused d T E n) λ _. refused d T E (zeroed nodeWidth n 0))
-      at true y =
-          let k = parsed-errors-kept T (d .errorCount) E n in
-          let r = parsed T (d .errorCount) E n in
+      at : (x : Bool) → Within t e n (pickReading x (λ _. joined (d .tokenCount) T (parsed T (d .errorCount) E N)) λ _. refused (enteredAfter d t e n))
+      at true =
+          let k = parsed-errors-kept T (d .errorCount) E N in
+          let r = parsed T (d .errorCount) E N in
           let p : room errorWidth E ≡ room errorWidth e = room-length errorWidth E e el in
           let q : room errorWidth (r .errors) ≡ room errorWidth e = room-length errorWidth (r .errors) e (k .long ∙ el) in
           record {
             tokens-fit = ht;
             errors-fit = subst (λ (m : ℕ). r .errorCount ≤ m) q (k .within (subst (λ (m : ℕ). d .errorCount ≤ m) (sym p) he));
-            nodes-fit = parsed-nodes-within T (d .errorCount) E n;
+            nodes-fit = subst (λ (m : ℕ). r .nodeCount ≤ m) (room-length nodeWidth N n (after-long (d .outcome) n)) (parsed-nodes-within T (d .errorCount) E N);
           }
-      at false true = record { tokens-fit = ht; errors-fit = he; nodes-fit = omega arith }
-      at false false = record { tokens-fit = ht; errors-fit = he; nodes-fit = omega arith }
+      at false = record { tokens-fit = ht; errors-fit = he; nodes-fit = omega arith }
 
 -- the counts of a reading keep to the rooms
 pub reading-rooms : (s t e n : List ℕ) → Within t e n (reading s t e n)

@@ -1,6 +1,6 @@
 -- The whole reading depends on the sizes of the tables and not on what they hold; what it does not keep it leaves as it was. Assumes nothing.
 use mathlib.Core.Path.{_≡_, refl, sym, ap, subst, _∙_}
-use mathlib.Core.Bool.{Bool, true, false, not, _&&_, _||_}
+use mathlib.Core.Bool.{Bool, true, false, cond, not, _&&_, _||_}
 use mathlib.Core.List.{List, [], _∷_, _++_}
 use mathlib.Core.Logic.{⊎-elim}
 use Prim.Native.Nat.{ℕ, _+_, _-_, _*_, _≤_, _<_}
@@ -29,7 +29,8 @@ use Rattle.parsing.specs.Ahead.{Agree, isOutcome}
 use Rattle.parsing.proofs.Sizes.{SameParsed, parsed-sizes}
 use Rattle.parsing.proofs.Frame.{parsed-errors-kept, parsed-nodes-long}
 use Rattle.parsing.proofs.Ahead.{parsed-tokens, parsed-outcome}
-use Rattle.reader.specs.Reading.{over, refused, joined, pickReading, readAfter, reading, unread}
+use Rattle.reader.specs.Entry.{over, unread, nodesAfter, enteredAfter}
+use Rattle.reader.specs.Reading.{refused, joined, pickReading, readAfter, reading}
 use Rattle.whole.specs.Sizes.{SameReading, Rest}
 
 true-false : {A : Type 0} → true ≡ false → A
@@ -144,18 +145,41 @@ zeroed-sizes : (n n′ : List ℕ) → length n ≡ length n′ → zeroed nodeW
 unfolding zeroed
 zeroed-sizes n n′ l = ap (λ (m : ℕ). replicate (m - 0) 0) l
 
+-- ---- the node table that the entry leaves
+pub after-long : (o : ℕ) (n : List ℕ) → length (nodesAfter o n) ≡ length n
+after-long o n = at (eqb o 0 || unread o)
+  where
+    at : (b : Bool) → length (cond b n (zeroed nodeWidth n 0)) ≡ length n
+    at true = refl
+    at false = zeroed-length nodeWidth n 0
+
+-- after 3 and 4 it is as it was
+after-unread : (o : ℕ) (n : List ℕ) → unread o ≡ true → nodesAfter o n ≡ n
+after-unread o n u = ap (λ (b : Bool). cond (eqb o 0 || b) n (zeroed nodeWidth n 0)) u ∙ at (eqb o 0)
+  where
+    at : (b : Bool) → cond (b || true) n (zeroed nodeWidth n 0) ≡ n
+    at true = refl
+    at false = refl
+
+-- after the others that end the reading nothing of it is left
+after-zero : (o : ℕ) (n : List ℕ) → eqb o 0 ≡ false → unread o ≡ false → nodesAfter o n ≡ zeroed nodeWidth n 0
+after-zero o n z u = ap (λ (b : Bool). cond (b || unread o) n (zeroed nodeWidth n 0)) z ∙ ap (λ (b : Bool). cond b n (zeroed nodeWidth n 0)) u
+
 module _ (d : Result) (w : Well d) (t e n t′ e′ n′ : List ℕ) (tl : length t ≡ length t′) (el : length e ≡ length e′) (nl : length n ≡ length n′) where
-  joined-sizes : d .outcome ≡ 0 → SameParsed (parsed (over (d .tokens) t) (d .errorCount) (over (d .errors) e) n) (parsed (over (d .tokens) t′) (d .errorCount) (over (d .errors) e′) n′)
+  joined-sizes : d .outcome ≡ 0
+      → SameParsed (parsed (over (d .tokens) t) (d .errorCount) (over (d .errors) e) (nodesAfter (d .outcome) n)) (parsed (over (d .tokens) t′) (d .errorCount) (over (d .errors) e′) (nodesAfter (d .outcome) n′))
   joined-sizes z =
       let c = d .errorCount in
       let T = over (d .tokens) t in
       let T′ = over (d .tokens) t′ in
       let E = over (d .errors) e in
       let E′ = over (d .errors) e′ in
+      let N = nodesAfter (d .outcome) n in
+      let N′ = nodesAfter (d .outcome) n′ in
       let x = w .eof z in
       let a : Agree (x .0) T T′ = over-agree (d .tokens) t t′ (x .0) tl (w .tokens-long ∙ ap (λ (k : ℕ). tokenWidth * k) (x .1)) (x .2) in
-      subst (λ (r : Parsed). SameParsed (parsed T c E n) r) (parsed-tokens T T′ (x .0) a c E′ n′)
-      (parsed-sizes T c E n E′ n′ (over-long (d .errors) e e′ el) nl (over-take (errorWidth * c) (d .errors) e (w .errors-long) ∙ sym (over-take (errorWidth * c) (d .errors) e′ (w .errors-long))))
+      subst (λ (r : Parsed). SameParsed (parsed T c E N) r) (parsed-tokens T T′ (x .0) a c E′ N′)
+      (parsed-sizes T c E N E′ N′ (over-long (d .errors) e e′ el) (after-long (d .outcome) n ∙ nl ∙ sym (after-long (d .outcome) n′)) (over-take (errorWidth * c) (d .errors) e (w .errors-long) ∙ sym (over-take (errorWidth * c) (d .errors) e′ (w .errors-long))))
 
   tokens-same : take (tokenWidth * d .tokenCount) (over (d .tokens) t) ≡ take (tokenWidth * d .tokenCount) (over (d .tokens) t′)
   tokens-same = over-take (tokenWidth * d .tokenCount) (d .tokens) t (w .tokens-long) ∙ sym (over-take (tokenWidth * d .tokenCount) (d .tokens) t′ (w .tokens-long))
@@ -163,18 +187,27 @@ module _ (d : Result) (w : Well d) (t e n t′ e′ n′ : List ℕ) (tl : lengt
   errors-same : take (errorWidth * d .errorCount) (over (d .errors) e) ≡ take (errorWidth * d .errorCount) (over (d .errors) e′)
   errors-same = over-take (errorWidth * d .errorCount) (d .errors) e (w .errors-long) ∙ sym (over-take (errorWidth * d .errorCount) (d .errors) e′ (w .errors-long))
 
-  after-sizes : SameReading (readAfter d (over (d .tokens) t) (over (d .errors) e) n) (readAfter d (over (d .tokens) t′) (over (d .errors) e′) n′)
-  after-sizes = at (eqb (d .outcome) 0) refl (unread (d .outcome)) refl
+  after-sizes : SameReading (readAfter (enteredAfter d t e n)) (readAfter (enteredAfter d t′ e′ n′))
+  after-sizes = at (eqb (d .outcome) 0) refl
     where
-      at : (x : Bool) → eqb (d .outcome) 0 ≡ x → (y : Bool) → unread (d .outcome) ≡ y
+      at : (x : Bool) → eqb (d .outcome) 0 ≡ x
           → SameReading
-          (pickReading x (λ _. joined (d .tokenCount) (over (d .tokens) t) (parsed (over (d .tokens) t) (d .errorCount) (over (d .errors) e) n)) λ _. pickReading y (λ _. refused d (over (d .tokens) t) (over (d .errors) e) n) λ _. refused d (over (d .tokens) t) (over (d .errors) e) (zeroed nodeWidth n 0))
-          (pickReading x (λ _. joined (d .tokenCount) (over (d .tokens) t′) (parsed (over (d .tokens) t′) (d .errorCount) (over (d .errors) e′) n′)) λ _. pickReading y (λ _. refused d (over (d .tokens) t′) (over (d .errors) e′) n′) λ _. refused d (over (d .tokens) t′) (over (d .errors) e′) (zeroed nodeWidth n′ 0))
-      at true p y q =
+          (pickReading x (λ _. joined (d .tokenCount) (over (d .tokens) t) (parsed (over (d .tokens) t) (d .errorCount) (over (d .errors) e) (nodesAfter (d .outcome) n))) λ _. refused (enteredAfter d t e n))
+          (pickReading x (λ _. joined (d .tokenCount) (over (d .tokens) t′) (parsed (over (d .tokens) t′) (d .errorCount) (over (d .errors) e′) (nodesAfter (d .outcome) n′))) λ _. refused (enteredAfter d t′ e′ n′))
+      at true p =
           let h = joined-sizes (eqb-true (d .outcome) 0 p) in
           record { outcome = h .outcome; tokenCount = refl; errorCount = h .errorCount; nodeCount = h .nodeCount; first = h .first; tokens-kept = tokens-same; errors-kept = h .errors-same; nodes = λ u. h .nodes }
-      at false p true q = record { outcome = refl; tokenCount = refl; errorCount = refl; nodeCount = refl; first = refl; tokens-kept = tokens-same; errors-kept = errors-same; nodes = λ u. true-false (sym q ∙ u) }
-      at false p false q = record { outcome = refl; tokenCount = refl; errorCount = refl; nodeCount = refl; first = refl; tokens-kept = tokens-same; errors-kept = errors-same; nodes = λ u. zeroed-sizes n n′ nl }
+      at false p =
+          record {
+            outcome = refl;
+            tokenCount = refl;
+            errorCount = refl;
+            nodeCount = refl;
+            first = refl;
+            tokens-kept = tokens-same;
+            errors-kept = errors-same;
+            nodes = λ u. after-zero (d .outcome) n p u ∙ zeroed-sizes n n′ nl ∙ sym (after-zero (d .outcome) n′ p u);
+          }
 
 -- two readings of one source into tables of the same sizes give the same answer and keep the same words
 pub reading-sizes : (s t e n t′ e′ n′ : List ℕ) → length t ≡ length t′ → length e ≡ length e′ → length n ≡ length n′ → SameReading (reading s t e n) (reading s t′ e′ n′)
@@ -182,7 +215,7 @@ unfolding reading
 reading-sizes s t e n t′ e′ n′ tl el nl =
     let d = lexedOf s (room tokenWidth t) (room errorWidth e) in
     let b : d ≡ lexedOf s (room tokenWidth t′) (room errorWidth e′) = ap (λ (k : ℕ). lexedOf s k (room errorWidth e)) (room-length tokenWidth t t′ tl) ∙ ap (lexedOf s (room tokenWidth t′)) (room-length errorWidth e e′ el) in
-    subst (λ (c : Result). SameReading (readAfter d (over (d .tokens) t) (over (d .errors) e) n) (readAfter c (over (c .tokens) t′) (over (c .errors) e′) n′)) b
+    subst (λ (c : Result). SameReading (readAfter (enteredAfter d t e n)) (readAfter (enteredAfter c t′ e′ n′))) b
     (after-sizes d (well s (room tokenWidth t) (room errorWidth e)) t e n t′ e′ n′ tl el nl)
 
 -- parsing does not end with 3 or 4
@@ -207,40 +240,32 @@ module _ (d : Result) (w : Well d) (t e n : List ℕ) (tf : length (d .tokens) �
   errors-rest : (c : ℕ) → d .errorCount ≤ c → drop (errorWidth * c) E ≡ drop (errorWidth * c) e
   errors-rest c h = over-drop (errorWidth * c) (d .errors) e (let a = w .errors-long in omega arith)
 
-  after-rest : Rest t e n (readAfter d T E n)
-  after-rest = at (eqb (d .outcome) 0) (unread (d .outcome)) refl
+  after-rest : Rest t e n (readAfter (enteredAfter d t e n))
+  after-rest = at (eqb (d .outcome) 0)
     where
-      at : (x y : Bool) → unread (d .outcome) ≡ y
-          → Rest t e n (pickReading x (λ _. joined (d .tokenCount) T (parsed T (d .errorCount) E n)) λ _. pickReading y (λ _. refused d T E n) λ _. refused d T E (zeroed nodeWidth n 0))
-      at true y q =
-          let k = parsed-errors-kept T (d .errorCount) E n in
-          let r = parsed T (d .errorCount) E n in
+      N : List ℕ
+      N = nodesAfter (d .outcome) n
+
+      at : (x : Bool) → Rest t e n (pickReading x (λ _. joined (d .tokenCount) T (parsed T (d .errorCount) E N)) λ _. refused (enteredAfter d t e n))
+      at true =
+          let k = parsed-errors-kept T (d .errorCount) E N in
+          let r = parsed T (d .errorCount) E N in
           record {
             tokens-long = over-keeps (d .tokens) t tf;
             errors-long = k .long ∙ over-keeps (d .errors) e ef;
-            nodes-long = parsed-nodes-long T (d .errorCount) E n;
+            nodes-long = parsed-nodes-long T (d .errorCount) E N ∙ after-long (d .outcome) n;
             tokens-rest = tokens-rest;
             errors-rest = k .rest ∙ errors-rest (r .errorCount) (k .more);
-            unchanged = outcome-read (r .outcome) (parsed-outcome T (d .errorCount) E n);
+            unchanged = outcome-read (r .outcome) (parsed-outcome T (d .errorCount) E N);
           }
-      at false true q =
-          let z = w .nothing q in
+      at false =
           record {
             tokens-long = over-keeps (d .tokens) t tf;
             errors-long = over-keeps (d .errors) e ef;
-            nodes-long = refl;
+            nodes-long = after-long (d .outcome) n;
             tokens-rest = tokens-rest;
             errors-rest = errors-rest (d .errorCount) (omega arith);
-            unchanged = λ u. (ap (λ (ws : List ℕ). over ws t) (z .0), ap (λ (ws : List ℕ). over ws e) (z .1), refl);
-          }
-      at false false q =
-          record {
-            tokens-long = over-keeps (d .tokens) t tf;
-            errors-long = over-keeps (d .errors) e ef;
-            nodes-long = zeroed-length nodeWidth n 0;
-            tokens-rest = tokens-rest;
-            errors-rest = errors-rest (d .errorCount) (omega arith);
-            unchanged = λ u. true-false (sym u ∙ q);
+            unchanged = λ u. (ap (λ (ws : List ℕ). over ws t) (w .nothing u .0), ap (λ (ws : List ℕ). over ws e) (w .nothing u .1), after-unread (d .outcome) n u);
           }
 
 -- a reading leaves the tables' lengths, the words behind the kept tokens and errors, and after 3 and 4 every word
@@ -259,16 +284,24 @@ reading-read s t e n l x =
     let b = room errorWidth e in
     let d = lexedOf s a b in
     let i : d ≡ lexed s a b = simp (le-ltb 65535 (length s) l, x) in
-    after d (over (d .tokens) t) (over (d .errors) e) (ap (λ (r : Result). unread (r .outcome)) i ∙ emit-read a b (items s 0) fresh)
+    after d (ap (λ (r : Result). unread (r .outcome)) i ∙ emit-read a b (items s 0) fresh)
   where
-    after : (d : Result) (T E : List ℕ) → unread (d .outcome) ≡ false → unread (readAfter d T E n .outcome) ≡ false
-    after d T E u = at (eqb (d .outcome) 0) (unread (d .outcome))
+    after : (d : Result) → unread (d .outcome) ≡ false → unread (readAfter (enteredAfter d t e n) .outcome) ≡ false
+    after d u = at (eqb (d .outcome) 0)
       where
+        T : List ℕ
+        T = over (d .tokens) t
+
+        E : List ℕ
+        E = over (d .errors) e
+
+        N : List ℕ
+        N = nodesAfter (d .outcome) n
+
         parse : (o : ℕ) → isOutcome o ≡ true → (y : Bool) → unread o ≡ y → unread o ≡ false
         parse o h true q = outcome-read o h q
         parse o h false q = q
 
-        at : (x y : Bool) → unread (pickReading x (λ _. joined (d .tokenCount) T (parsed T (d .errorCount) E n)) (λ _. pickReading y (λ _. refused d T E n) λ _. refused d T E (zeroed nodeWidth n 0)) .outcome) ≡ false
-        at true y = parse (parsed T (d .errorCount) E n .outcome) (parsed-outcome T (d .errorCount) E n) (unread (parsed T (d .errorCount) E n .outcome)) refl
-        at false true = u
-        at false false = u
+        at : (x : Bool) → unread (pickReading x (λ _. joined (d .tokenCount) T (parsed T (d .errorCount) E N)) (λ _. refused (enteredAfter d t e n)) .outcome) ≡ false
+        at true = parse (parsed T (d .errorCount) E N .outcome) (parsed-outcome T (d .errorCount) E N) (unread (parsed T (d .errorCount) E N .outcome)) refl
+        at false = u

@@ -1,12 +1,12 @@
 -- What the theorems say of the whole reading: it depends on the tables' sizes only, and what it does not keep it leaves.
 use Prim.Native.Nat.{ℕ, _*_, _≤_}
 use mathlib.Core.Path.{_≡_}
-use mathlib.Core.Bool.{Bool, true, false, _||_}
+use mathlib.Core.Bool.{true, false}
 use mathlib.Core.List.{List}
-use lib.Dec.{eqb}
 use lib.ListN.{length, take, drop}
 use Rattle.records.specs.Table.{room, tokenWidth, errorWidth, nodeWidth}
-use Rattle.reader.specs.Reading.{Reading, unread}
+use Rattle.reader.specs.Entry.{unread}
+use Rattle.reader.specs.Reading.{Reading}
 
 -- the same answer, the same kept tokens and errors, and, if the source was read, the same node table, word for word
 pub record SameReading (a b : Reading) : Type 0 where

@@ -1,11 +1,11 @@
 -- `reader::read` meets its contract. Assumes nothing.
 use borrow.Author.Needs.{needs}
-use Rattle.reader.proofs.Entry.{goes-on, leaves, clears, either, neither}
+use Rattle.reader.proofs.Entry.{goes-on, ends}
 use Rattle.reader.proofs.read.Statement.{statement}
 use Rattle.reader.proofs.read.Tie as tie
 
-scan-requires : tie.Need-scan-requires
-scan-requires c κs = search needs
+enter-requires : tie.Need-enter-requires
+enter-requires c κs = search needs
 
 parse-requires : tie.Need-parse-requires
 parse-requires c κs = search needs
@@ -21,11 +21,8 @@ same-length-3 c = search needs
 
 returns : tie.Need-returns
 returns c =
-    let a = c .before .before .before .before .before .before .before .before .before .before .before .before .before .before .before .before .before .before .before .before .before .args in
-    goes-on (a .source .now) (a .tokens .now) (a .errors .now) (a .nodes .now) _ _ _ (c .before .before .before .before .before .before .before .before .before .before .before .before .before .before .scan .ensures) _ _ _ (c .before .before .before .before .before .before .before .before .if1 .taken) (c .before .before .before .before .parse .ensures)
-
-zero-rest-requires : tie.Need-zero-rest-requires
-zero-rest-requires c κs = search needs
+    let a = c .before .before .before .before .before .before .before .before .before .before .before .before .before .before .before .before .before .before .before .before .before .before .before .before .args in
+    goes-on (a .source .now) (a .tokens .now) (a .errors .now) (a .nodes .now) _ _ _ _ (c .before .before .before .before .before .before .before .before .before .before .before .before .before .before .before .before .enter .ensures) _ _ _ (c .before .before .before .before .before .before .before .before .if1 .taken) (c .before .before .before .before .parse .ensures)
 
 same-length-4 : tie.Need-same-length-4
 same-length-4 c = search needs
@@ -38,35 +35,20 @@ same-length-6 c = search needs
 
 returns-2 : tie.Need-returns-2
 returns-2 c =
-    let a = c .before .before .before .before .before .before .before .before .before .before .before .before .before .before .before .before .before .before .before .before .args in
-    clears (a .source .now) (a .tokens .now) (a .errors .now) (a .nodes .now) _ _ _ (c .before .before .before .before .before .before .before .before .before .before .before .before .before .scan .ensures) _ (c .before .before .before .before .before .before .before .if1 .left) (neither (c .before .before .before .before .before .before .before .before .before .before .before .before .before .scan .result .outcome) (c .before .before .before .before .if2 .taken)) (c .before .before .zero-rest .ensures)
-
-same-length-7 : tie.Need-same-length-7
-same-length-7 c = search needs
-
-same-length-8 : tie.Need-same-length-8
-same-length-8 c = search needs
-
-returns-3 : tie.Need-returns-3
-returns-3 c =
     let a = c .before .before .before .before .before .before .before .before .before .before .before .before .before .before .before .before .args in
-    leaves (a .source .now) (a .tokens .now) (a .errors .now) (a .nodes .now) _ _ _ (c .before .before .before .before .before .before .before .before .before .scan .ensures) (c .before .before .before .if1 .left) (either (c .before .before .before .before .before .before .before .before .before .scan .result .outcome) (c .if2 .left))
+    ends (a .source .now) (a .tokens .now) (a .errors .now) (a .nodes .now) _ _ _ _ (c .before .before .before .before .before .before .before .before .enter .ensures) (c .if1 .left)
 
 pub read-spec : {M : Type 1} → statement M
 read-spec =
     tie.close
     (tie.spec
-    scan-requires
+    enter-requires
     parse-requires
     same-length
     same-length-2
     same-length-3
     returns
-    zero-rest-requires
     same-length-4
     same-length-5
     same-length-6
-    returns-2
-    same-length-7
-    same-length-8
-    returns-3)
+    returns-2)

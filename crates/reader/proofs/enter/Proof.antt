@@ -1,0 +1,50 @@
+-- `reader::enter` meets its contract. Assumes nothing.
+use borrow.Author.Needs.{needs}
+use Rattle.reader.proofs.Entry.{leaves, clears}
+use Rattle.reader.proofs.enter.Statement.{statement}
+use Rattle.reader.proofs.enter.Tie as tie
+
+scan-requires : tie.Need-scan-requires
+scan-requires c κs = search needs
+
+zero-rest-requires : tie.Need-zero-rest-requires
+zero-rest-requires c κs = search needs
+
+same-length : tie.Need-same-length
+same-length c = search needs
+
+same-length-2 : tie.Need-same-length-2
+same-length-2 c = search needs
+
+same-length-3 : tie.Need-same-length-3
+same-length-3 c = search needs
+
+returns : tie.Need-returns
+returns c =
+    let a = c .before .before .before .before .before .before .before .before .before .before .before .before .before .before .before .before .before .before .before .args in
+    clears (a .source .now) (a .tokens .now) (a .errors .now) (a .nodes .now) _ _ _ (c .before .before .before .before .before .before .before .before .before .before .before .before .scan .ensures) _ (c .before .before .before .before .if1 .taken) (c .before .before .zero-rest .ensures)
+
+same-length-4 : tie.Need-same-length-4
+same-length-4 c = search needs
+
+same-length-5 : tie.Need-same-length-5
+same-length-5 c = search needs
+
+returns-2 : tie.Need-returns-2
+returns-2 c =
+    let a = c .before .before .before .before .before .before .before .before .before .before .before .before .before .before .before .args in
+    leaves (a .source .now) (a .tokens .now) (a .errors .now) (a .nodes .now) _ _ _ (c .before .before .before .before .before .before .before .before .scan .ensures) (c .if1 .left)
+
+pub enter-spec : {M : Type 1} → statement M
+enter-spec =
+    tie.close
+    (tie.spec
+    scan-requires
+    zero-rest-requires
+    same-length
+    same-length-2
+    same-length-3
+    returns
+    same-length-4
+    same-length-5
+    returns-2)
