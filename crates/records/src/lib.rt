@@ -5,11 +5,11 @@ ghost use Rattle.records.specs.Table.{tokenWidth, errorWidth, nodeWidth,
 ghost use Rattle.records.specs.Words.{tokenWords, errorWords, nodeWords};
 
 // The words of a token, of an error and of a node.
-const TOKEN_WIDTH: usize = 7;
+pub const TOKEN_WIDTH: usize = 7;
 
-const ERROR_WIDTH: usize = 3;
+pub const ERROR_WIDTH: usize = 3;
 
-const NODE_WIDTH: usize = 9;
+pub const NODE_WIDTH: usize = 9;
 
 // The seven words of a token: sort says what value it has, low and high hold it.
 pub struct TokenData {

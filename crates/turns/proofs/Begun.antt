@@ -42,10 +42,10 @@ module _ (n m : ℕ) (ws rest : List ℕ) (d : TokenData) (rows : Rows tokenWord
   abbrev T : List ℕ
   T = (ws ++ tokenWords d) ++ rest
 
-  long : length ws ≡ 7 * m
+  long : length ws ≡ tokenWidth * m
   long = rows-length tokenWords (Good n) tokenWidth (λ d. refl) ws m rows
 
-  front : length (ws ++ tokenWords d) ≡ 7 * m + 7
+  front : length (ws ++ tokenWords d) ≡ tokenWidth * m + tokenWidth
   front = length-append ws (tokenWords d) ∙ (let a = long in omega arith)
 
   -- no token before the last is EOF
@@ -55,8 +55,8 @@ module _ (n m : ℕ) (ws rest : List ℕ) (d : TokenData) (rows : Rows tokenWord
       let x = row-at tokenWords (Good n) tokenWidth (λ d. refl) ws m rows i h in
       let a = long in
       let b = front in
-      let k : getD T (7 * i + 0) 0 ≡ x .0 .kind = List·getD-append (ws ++ tokenWords d) rest 0 (7 * i + 0) (omega arith) ∙ List·getD-append ws (tokenWords d) 0 (7 * i + 0) (omega arith) ∙ x .2 0 (omega arith) in
-      let e : x .0 .kind ≡ 0 = sym k ∙ sym (field-room 7 0 T i (omega arith)) ∙ z in
+      let k : getD T (tokenWidth * i + 0) 0 ≡ x .0 .kind = List·getD-append (ws ++ tokenWords d) rest 0 (tokenWidth * i + 0) (omega arith) ∙ List·getD-append ws (tokenWords d) 0 (tokenWidth * i + 0) (omega arith) ∙ x .2 0 (omega arith) in
+      let e : x .0 .kind ≡ 0 = sym k ∙ sym (field-room tokenWidth 0 T i (omega arith)) ∙ z in
       let g = x .1 .kind-from in
       omega arith
 
@@ -66,7 +66,7 @@ module _ (n m : ℕ) (ws rest : List ℕ) (d : TokenData) (rows : Rows tokenWord
   kind-last =
       let a = long in
       let b = front in
-      field-room 7 0 T m (omega arith) ∙ List·getD-append (ws ++ tokenWords d) rest 0 (7 * m + 0) (omega arith) ∙ ap (λ (k : ℕ). getD (ws ++ tokenWords d) (k + 0) 0) (sym long) ∙ getD-append-add ws (tokenWords d) 0 0 ∙ eof .kind-is
+      field-room tokenWidth 0 T m (omega arith) ∙ List·getD-append (ws ++ tokenWords d) rest 0 (tokenWidth * m + 0) (omega arith) ∙ ap (λ (k : ℕ). getD (ws ++ tokenWords d) (k + 0) 0) (sym long) ∙ getD-append-add ws (tokenWords d) 0 0 ∙ eof .kind-is
 
   none-before : (j : ℕ) → j ≤ m → noEof T j ≡ true
   unfolding noEof

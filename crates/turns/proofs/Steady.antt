@@ -78,7 +78,7 @@ in-then : (n : Found) (q : state.State) (E N : List ℕ) (r : Reply) → Grown (
 in-then n q E N (reply r (Node g) E′ N′) h l = let u = h .nodes .more in record { kept = omega arith }
 in-then n q E N (reply r (Stop o) E′ N′) h l = record { kept = tt }
 
-top-in : (T : List ℕ) (p : state.State) (E N : List ℕ) → p .nodes ≤ room 9 N → p .current ≤ count T → In (topLevel T p E N)
+top-in : (T : List ℕ) (p : state.State) (E N : List ℕ) → p .nodes ≤ room nodeWidth N → p .current ≤ count T → In (topLevel T p E N)
 unfolding topLevel
 top-in T p E N a b = first (lower T 128 Declaration p E N) (lower-reads T 128 Declaration p E N a b)
   where
