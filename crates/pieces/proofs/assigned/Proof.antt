@@ -3,12 +3,6 @@ use Rattle.parser.specs.Programs.{run}
 use borrow.Author.Needs.{needs}
 use Rattle.pieces.proofs.assigned.Statement.{statement}
 use Rattle.pieces.proofs.assigned.Tie as tie
-use Rattle.pieces.proofs.assigned.Reads as reads
-use Rattle.pieces.proofs.assigned.Lts as lts
-use Rattle.parser.proofs.make.Reads as make-reads
-use Rattle.pieces.proofs.before.Reads as before-reads
-use Rattle.pieces.proofs.fatal.Reads as fatal-reads
-use Rattle.pieces.proofs.row.Reads as row-reads
 
 enum-known-f : tie.Need-enum-known-f
 enum-known-f c = search needs

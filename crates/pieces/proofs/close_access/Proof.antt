@@ -4,13 +4,6 @@ use Rattle.parser.specs.Grammar.{closed}
 use borrow.Author.Needs.{needs}
 use Rattle.pieces.proofs.close_access.Statement.{statement}
 use Rattle.pieces.proofs.close_access.Tie as tie
-use Rattle.pieces.proofs.close_access.Reads as reads
-use Rattle.pieces.proofs.close_access.Lts as lts
-use Rattle.parser.proofs.consume.Reads as consume-reads
-use Rattle.parser.proofs.make.Reads as make-reads
-use Rattle.pieces.proofs.form_through.Reads as form-through-reads
-use Rattle.pieces.proofs.gives_form.Reads as gives-form-reads
-use Rattle.pieces.proofs.row.Reads as row-reads
 
 consume-requires : tie.Need-consume-requires
 consume-requires c κs = search needs

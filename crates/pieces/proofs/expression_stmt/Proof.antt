@@ -2,11 +2,6 @@
 use borrow.Author.Needs.{needs}
 use Rattle.pieces.proofs.expression_stmt.Statement.{statement}
 use Rattle.pieces.proofs.expression_stmt.Tie as tie
-use Rattle.pieces.proofs.expression_stmt.Reads as reads
-use Rattle.pieces.proofs.expression_stmt.Lts as lts
-use Rattle.parser.proofs.make.Reads as make-reads
-use Rattle.pieces.proofs.last_of.Reads as last-of-reads
-use Rattle.pieces.proofs.row.Reads as row-reads
 
 enum-known-k : tie.Need-enum-known-k
 enum-known-k c = search needs

@@ -2,10 +2,6 @@
 use borrow.Author.Needs.{needs}
 use Rattle.pieces.proofs.fatal.Statement.{statement}
 use Rattle.pieces.proofs.fatal.Tie as tie
-use Rattle.pieces.proofs.fatal.Reads as reads
-use Rattle.pieces.proofs.fatal.Lts as lts
-use Rattle.parser.proofs.set_error.Reads as set-error-reads
-use Rattle.parser.proofs.stopped.Reads as stopped-reads
 
 set-error-requires : tie.Need-set-error-requires
 set-error-requires c κs = search needs

@@ -1,10 +1,7 @@
 -- Made by tools/remake function pieces form_through from tools/ans/pieces/form_through.txt: `pieces::form_through` meets its contract. Assumes nothing.
-use Rattle.parser.specs.Programs.{run}
 use borrow.Author.Needs.{needs}
 use Rattle.pieces.proofs.form_through.Statement.{statement}
 use Rattle.pieces.proofs.form_through.Tie as tie
-use Rattle.pieces.proofs.form_through.Reads as reads
-use Rattle.pieces.proofs.form_through.Lts as lts
 
 enum-told : tie.Need-enum-told
 enum-told c = search needs

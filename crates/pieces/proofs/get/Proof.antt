@@ -1,15 +1,8 @@
 -- Made by tools/remake function pieces get from tools/ans/pieces/get.txt: `pieces::get` meets its contract. Assumes nothing.
-use mathlib.Core.Path.{_∙_}
 use Rattle.parser.specs.Programs.{run}
 use borrow.Author.Needs.{needs}
 use Rattle.pieces.proofs.get.Statement.{statement}
 use Rattle.pieces.proofs.get.Tie as tie
-use Rattle.pieces.proofs.get.Reads as reads
-use Rattle.pieces.proofs.get.Lts as lts
-use Rattle.parser.proofs.make.Reads as make-reads
-use Rattle.parser.proofs.require.Reads as require-reads
-use Rattle.pieces.proofs.gives_form.Reads as gives-form-reads
-use Rattle.pieces.proofs.row.Reads as row-reads
 
 require-requires : tie.Need-require-requires
 require-requires c κs = search needs

@@ -6,13 +6,6 @@ use Rattle.parser.specs.Programs.{run}
 use borrow.Author.Needs.{needs}
 use Rattle.pieces.proofs.jump.Statement.{statement}
 use Rattle.pieces.proofs.jump.Tie as tie
-use Rattle.pieces.proofs.jump.Reads as reads
-use Rattle.pieces.proofs.jump.Lts as lts
-use Rattle.parser.proofs.State.inside_loop.Reads as inside-loop-reads
-use Rattle.parser.proofs.make.Reads as make-reads
-use Rattle.parser.proofs.set_error.Reads as set-error-reads
-use Rattle.pieces.proofs.before.Reads as before-reads
-use Rattle.pieces.proofs.row.Reads as row-reads
 
 -- inside a loop the count is not 0, outside it is
 inside : (b r : Bool) → r ≡ not b → r ≡ true → b ≡ false

@@ -12,15 +12,6 @@ use Rattle.pieces.proofs.Turns.{found-past, make-on}
 use borrow.Author.Needs.{needs}
 use Rattle.pieces.proofs.names.Statement.{statement}
 use Rattle.pieces.proofs.names.Tie as tie
-use Rattle.pieces.proofs.names.Reads as reads
-use Rattle.pieces.proofs.names.Lts as lts
-use Rattle.parser.proofs.State.at_token.Reads as at-token-reads
-use Rattle.parser.proofs.first_of.Reads as first-of-reads
-use Rattle.parser.proofs.gives.Reads as gives-reads
-use Rattle.parser.proofs.make.Reads as make-reads
-use Rattle.parser.proofs.matches.Reads as matches-reads
-use Rattle.pieces.proofs.row.Reads as row-reads
-use Rattle.records.proofs.link.Reads as link-reads
 
 -- the names that are left are the rest of the whole, with fuel for a turn for each token that is left
 record NamesInv (T : List ℕ) (N₀ : List ℕ) (s₀ : State) (N : List ℕ) (s : State) (first last : ℕ) : Type 0 where

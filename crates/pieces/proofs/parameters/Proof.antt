@@ -15,18 +15,6 @@ use Rattle.pieces.proofs.Turns.{found-past, require-past, make-on}
 use borrow.Author.Needs.{needs}
 use Rattle.pieces.proofs.parameters.Statement.{statement}
 use Rattle.pieces.proofs.parameters.Tie as tie
-use Rattle.pieces.proofs.parameters.Reads as reads
-use Rattle.pieces.proofs.parameters.Lts as lts
-use Rattle.parser.proofs.State.at_token.Reads as at-token-reads
-use Rattle.parser.proofs.check.Reads as check-reads
-use Rattle.parser.proofs.first_of.Reads as first-of-reads
-use Rattle.parser.proofs.gives.Reads as gives-reads
-use Rattle.parser.proofs.make.Reads as make-reads
-use Rattle.parser.proofs.matches.Reads as matches-reads
-use Rattle.parser.proofs.require.Reads as require-reads
-use Rattle.pieces.proofs.fatal.Reads as fatal-reads
-use Rattle.pieces.proofs.row.Reads as row-reads
-use Rattle.records.proofs.link.Reads as link-reads
 
 -- the parameters that are left are the rest of the whole, with fuel for a turn for each token that is left
 record ParametersInv (T : List ℕ) (message : ℕ) (E₀ N₀ : List ℕ) (s₀ : State) (E N : List ℕ) (s : State) (first last n : ℕ) : Type 0 where

@@ -3,9 +3,6 @@ use Rattle.parser.specs.Programs.{run}
 use borrow.Author.Needs.{needs}
 use Rattle.pieces.proofs.step.Statement.{statement}
 use Rattle.pieces.proofs.step.Tie as tie
-use Rattle.pieces.proofs.step.Reads as reads
-use Rattle.pieces.proofs.step.Lts as lts
-use Rattle.pieces.proofs.close_access.Reads as close-access-reads
 
 enum-known-k : tie.Need-enum-known-k
 enum-known-k c = search needs

@@ -5,14 +5,6 @@ use Rattle.parser.specs.Grammar.{superExpr}
 use borrow.Author.Needs.{needs}
 use Rattle.pieces.proofs.super_expr.Statement.{statement}
 use Rattle.pieces.proofs.super_expr.Tie as tie
-use Rattle.pieces.proofs.super_expr.Reads as reads
-use Rattle.pieces.proofs.super_expr.Lts as lts
-use Rattle.parser.proofs.State.at_token.Reads as at-token-reads
-use Rattle.parser.proofs.check.Reads as check-reads
-use Rattle.parser.proofs.consume.Reads as consume-reads
-use Rattle.parser.proofs.make.Reads as make-reads
-use Rattle.parser.proofs.require.Reads as require-reads
-use Rattle.pieces.proofs.row.Reads as row-reads
 
 check-requires : tie.Need-check-requires
 check-requires c κs = search needs

@@ -3,14 +3,6 @@ use Rattle.parser.specs.Programs.{run}
 use borrow.Author.Needs.{needs}
 use Rattle.pieces.proofs.superclass.Statement.{statement}
 use Rattle.pieces.proofs.superclass.Tie as tie
-use Rattle.pieces.proofs.superclass.Reads as reads
-use Rattle.pieces.proofs.superclass.Lts as lts
-use Rattle.parser.proofs.State.at_token.Reads as at-token-reads
-use Rattle.parser.proofs.consume.Reads as consume-reads
-use Rattle.parser.proofs.gives.Reads as gives-reads
-use Rattle.parser.proofs.make.Reads as make-reads
-use Rattle.parser.proofs.matches.Reads as matches-reads
-use Rattle.pieces.proofs.row.Reads as row-reads
 
 matches-requires : tie.Need-matches-requires
 matches-requires c κs = search needs
