@@ -3,7 +3,9 @@ use Prim.Native.Nat.{ℕ, zero, suc}
 use mathlib.Core.Bool.{Bool, true, false, not, _&&_}
 use mathlib.Core.List.{List}
 use lib.Dec.{eqb, leb, ltb}
+use Rattle.token.specs.Kind.{EOF}
 use Rattle.records.specs.Table.{room, linked, zeroed, tokenWidth, errorWidth, nodeWidth}
+use Rattle.records.specs.Outcomes as outcomes
 use Rattle.parser.specs.declared.State as state
 use Rattle.parser.specs.declared.Got.the-variants.{Node, Stop}
 use Rattle.parser.specs.Tokens.{kindAt}
@@ -49,17 +51,17 @@ pickCall false a b = b tt
 
 -- 19 where a token before EOF is left to be read, else the final answer 0
 unfoldable pub restOf : List ℕ → Parser → List ℕ → List ℕ → Called
-restOf T p E N = pickCall (eqb (kindAt T (p .current)) 0) (λ _. final 0 p T E N) λ _. left (leaving (markedAs 0 19 p)) T E N
+restOf T p E N = pickCall (eqb (kindAt T (p .current)) EOF) (λ _. final outcomes.ended p T E N) λ _. left (leaving (markedAs 0 outcomes.goesOn p)) T E N
 
 -- ---- begin
 -- the parser before the first statement, with what was lexed
 abbrev pub fresh : ℕ → ℕ → Parser
-fresh tokens errors = record { current = 0; loops = 0; tokens = tokens; errors = errors; nodes = 0; first = 0; last = 0; ended = 0; outcome = 19 }
+fresh tokens errors = record { current = 0; loops = 0; tokens = tokens; errors = errors; nodes = 0; first = 0; last = 0; ended = 0; outcome = outcomes.goesOn }
 
 -- what stands when lexing is over is read, a statement at a time; or its outcome is the final answer
 abbrev pub begunAfter : Entered → Called
 begunAfter d =
-    pickCall (eqb (d .outcome) 0) (λ _. restOf (d .tokens) (fresh (d .tokenCount) (d .errorCount)) (d .errors) (d .nodes)) λ _.
+    pickCall (eqb (d .outcome) outcomes.ended) (λ _. restOf (d .tokens) (fresh (d .tokenCount) (d .errorCount)) (d .errors) (d .nodes)) λ _.
     left (leaving (markedAs 1 (d .outcome) (fresh (d .tokenCount) (d .errorCount)))) (d .tokens) (d .errors) (d .nodes)
 
 -- `begin`, of any source into tables t, e and n: what the parser was does not matter
@@ -70,12 +72,12 @@ begun s t e n = begunAfter (entered s t e n)
 -- none of the first n tokens is EOF
 unfoldable pub noEof : List ℕ → ℕ → Bool
 noEof T zero = true
-noEof T (suc k) = not (eqb (kindAt T k) 0) && noEof T k
+noEof T (suc k) = not (eqb (kindAt T k) EOF) && noEof T k
 
 -- of n tokens the last is EOF, and the only one
 unfoldable pub onlyEof : List ℕ → ℕ → Bool
 onlyEof T zero = false
-onlyEof T (suc k) = eqb (kindAt T k) 0 && noEof T k
+onlyEof T (suc k) = eqb (kindAt T k) EOF && noEof T k
 
 -- the counts and the last statement fit the tables, the cursor is below the token count, and the loop count is not over it
 abbrev pub within : List ℕ → List ℕ → List ℕ → Parser → Bool
@@ -89,7 +91,7 @@ fitsIn T E N p = within T E N p && onlyEof T (p .tokens)
 
 -- 18, with counts and first statement 0, and nothing changed
 abbrev pub refusedAs : Parser → Stepped
-refusedAs p = record { parser = p; answer = record { outcome = 18; tokens = 0; errors = 0; nodes = 0; first = 0 } }
+refusedAs p = record { parser = p; answer = record { outcome = outcomes.doesNotFit; tokens = 0; errors = 0; nodes = 0; first = 0 } }
 
 -- the state in which the parser reads
 abbrev pub stateOf : Parser → state.State
@@ -97,11 +99,11 @@ stateOf p = record { current = p .current; errors = p .errors; nodes = p .nodes;
 
 -- the parser behind a statement n, in the state q
 abbrev pub behind : Parser → state.State → ℕ → Parser
-behind p q n = record { current = q .current; loops = q .loops; tokens = p .tokens; errors = q .errors; nodes = q .nodes; first = firstOf (p .first) n; last = n; ended = 0; outcome = 19 }
+behind p q n = record { current = q .current; loops = q .loops; tokens = p .tokens; errors = q .errors; nodes = q .nodes; first = firstOf (p .first) n; last = n; ended = 0; outcome = outcomes.goesOn }
 
 -- the parser at a statement that stopped the reading: none of its nodes is kept, but its errors are
 abbrev pub stoppedAt : Parser → ℕ → Parser
-stoppedAt p errors = record { current = p .current; loops = p .loops; tokens = p .tokens; errors = errors; nodes = p .nodes; first = p .first; last = p .last; ended = 0; outcome = 19 }
+stoppedAt p errors = record { current = p .current; loops = p .loops; tokens = p .tokens; errors = errors; nodes = p .nodes; first = p .first; last = p .last; ended = 0; outcome = outcomes.goesOn }
 
 -- by what came of a statement: it is linked behind the last one; or it stopped the reading
 abbrev pub afterOne : List ℕ → Parser → Reply → Called
@@ -110,7 +112,7 @@ afterOne T p (reply q (Stop o) E N) = final o (stoppedAt p (q .errors)) T E N
 
 -- one top-level statement is read; at EOF there is none, and the reading is at its end
 unfoldable pub oneOf : List ℕ → Parser → List ℕ → List ℕ → Called
-oneOf T p E N = pickCall (eqb (kindAt T (p .current)) 0) (λ _. final 0 p T E N) λ _. afterOne T p (topLevel T (stateOf p) E N)
+oneOf T p E N = pickCall (eqb (kindAt T (p .current)) EOF) (λ _. final outcomes.ended p T E N) λ _. afterOne T p (topLevel T (stateOf p) E N)
 
 -- `read`, of any parser and any tables: the final answer once more, where it was given; else 18 or one statement
 unfoldable pub nextOf : List ℕ → List ℕ → List ℕ → Parser → Called

@@ -5,6 +5,8 @@ use mathlib.Core.Bool.{Bool, true, false}
 use mathlib.Core.List.{List, [], _∷_}
 use lib.Dec.{eqb}
 use lib.ListN.{length}
+use Rattle.token.specs.Kind.{EOF}
+use Rattle.records.specs.Outcomes.{tooDeep}
 use Rattle.records.specs.Table.{linked}
 use Rattle.parser.specs.declared.State.{State}
 use Rattle.parser.specs.declared.Found.{Found}
@@ -92,7 +94,7 @@ runNamed T low (m >>= k) p cs E N = thenNamed (runNamed T low m p cs E N) λ f q
 runNamed T low (m >> k) p cs E N = thenNamed (runNamed T low m p cs E N) λ f q cs E N. runNamed T low k q cs E N
 runNamed T low (look kind found missing) p cs E N = ifNamed (matchesAt T (p .current) kind) (λ i. runNamed T low (found i) (moved p i) cs E N) λ _. runNamed T low missing p cs E N
 runNamed T low (check kind found missing) p cs E N = ifNamed (checkAt T (p .current) kind) (λ i. runNamed T low found (moved p i) cs E N) λ _. runNamed T low missing p cs E N
-runNamed T low (atEnd found missing) p cs E N = eitherNamed (eqb (kindAt T (p .current)) 0) (λ _. runNamed T low found p cs E N) λ _. runNamed T low missing p cs E N
+runNamed T low (atEnd found missing) p cs E N = eitherNamed (eqb (kindAt T (p .current)) EOF) (λ _. runNamed T low found p cs E N) λ _. runNamed T low missing p cs E N
 runNamed T low previous p cs E N = named (reply p (Node (plain (p .current))) E N) cs
 runNamed T low (node d) p cs E N = named (pushNode d p E N) cs
 runNamed T low (link prev next) p cs E N = named (reply p (Node (plain 0)) E (linked N prev next)) cs
@@ -109,5 +111,5 @@ runNamed T low (down w) p cs E N = low w p cs E N
 
 -- with l levels left: a reading one level down
 unfoldable pub lowerNamed : List ℕ → ℕ → Which → NamedReader
-lowerNamed T zero w p cs E N = named (reply p (Stop 8) E N) cs
+lowerNamed T zero w p cs E N = named (reply p (Stop tooDeep) E N) cs
 lowerNamed T (suc l) w p cs E N = runNamed T (lowerNamed T l) (body T w) p cs E N

@@ -7,16 +7,15 @@ use Rattle.grammar.proofs.declaration.Reads as declaration
 use Rattle.grammar.proofs.for_in.Reads as for-in
 use Rattle.grammar.proofs.+access+arguments+assignment+binary+block+call+class+declaration+elifs+fn_expr+fn_stmt+for_c+for_in+for_loop+func+if_stmt+let_stmt+methods+pairs+primary+ret+slice+stmt+try_catch+unary+upto+while_stmt.Lts-for_in as for-in-lts
 use Rattle.parser.proofs.consume.Reads as consume-reads
-use Rattle.parser.proofs.make.Reads as make-reads
+use Rattle.pieces.proofs.for_node.Reads as for-node-reads
 use Rattle.pieces.proofs.names.Reads as names-reads
-use Rattle.pieces.proofs.row.Reads as row-reads
 use Rattle.grammar.proofs.+access+arguments+assignment+binary+block+call+class+declaration+elifs+fn_expr+fn_stmt+for_c+for_in+for_loop+func+if_stmt+let_stmt+methods+pairs+primary+ret+slice+stmt+try_catch+unary+upto+while_stmt.Proof.Measures.{for-in-at, assignment-below, declaration-below}
 use borrow.Author.Needs.{needs}
 use native.Mathlib.Omega.{arith}
 use mathlib.Core.Path.{_∙_}
 
 abbrev claims : ℕ → for-in-lts.Claims
-claims t = (names-reads.Asked, names-reads.Learnt, consume-reads.Asked, consume-reads.Learnt, assignment-below t, assignment.Post, declaration-below t, declaration.Post, row-reads.Asked, row-reads.Learnt, make-reads.Asked, make-reads.Learnt)
+claims t = (names-reads.Asked, names-reads.Learnt, consume-reads.Asked, consume-reads.Learnt, assignment-below t, assignment.Post, declaration-below t, declaration.Post, for-node-reads.Asked, for-node-reads.Learnt)
 
 names-requires : (t : ℕ) → for-in-lts.Need-names-requires (claims t) (for-in-at t) for-in.Post
 names-requires t c κs = search needs
@@ -75,37 +74,18 @@ returns-3 t c = rw (← c .before .before .before .before .before .before .befor
 declaration-requires : (t : ℕ) → for-in-lts.Need-declaration-requires (claims t) (for-in-at t) for-in.Post
 declaration-requires t c κs = omega (arith, c .before .before .before .before .before .before .before .before .before .before .before .before .before .before .before .before .before .before .before .before .before .before .before .before .before .before .before .before .before .before .before .pre)
 
-enum-known-k-3 : (t : ℕ) → for-in-lts.Need-enum-known-k-3 (claims t) (for-in-at t) for-in.Post
-enum-known-k-3 t c = search needs
-
-enum-told-5 : (t : ℕ) → for-in-lts.Need-enum-told-5 (claims t) (for-in-at t) for-in.Post
-enum-told-5 t c = search needs
+for-node-requires : (t : ℕ) → for-in-lts.Need-for-node-requires (claims t) (for-in-at t) for-in.Post
+for-node-requires t c κs = search needs
 
 same-length-6 : (t : ℕ) → for-in-lts.Need-same-length-6 (claims t) (for-in-at t) for-in.Post
-same-length-6 t c = c .before .before .before .before .before .before .declaration .kept .1 .0 ∙ c .before .before .before .before .before .before .before .before .before .before .before .before .before .before .before .before .before .assignment .kept .1 .0 ∙ c .before .before .before .before .before .before .before .before .before .before .before .before .before .before .before .before .before .before .before .before .before .before .before .before .before .consume .kept .1 .0
+same-length-6 t c = c .before .before .before .before .before .before .before .before .declaration .kept .1 .0 ∙ c .before .before .before .before .before .before .before .before .before .before .before .before .before .before .before .before .before .before .before .assignment .kept .1 .0 ∙ c .before .before .before .before .before .before .before .before .before .before .before .before .before .before .before .before .before .before .before .before .before .before .before .before .before .before .before .consume .kept .1 .0
 
 same-length-7 : (t : ℕ) → for-in-lts.Need-same-length-7 (claims t) (for-in-at t) for-in.Post
-same-length-7 t c = c .before .before .before .before .before .before .declaration .kept .1 .1 .0 ∙ c .before .before .before .before .before .before .before .before .before .before .before .before .before .before .before .before .before .assignment .kept .1 .1 .0 ∙ c .before .before .before .before .before .before .before .before .before .before .before .before .before .before .before .before .before .before .before .before .before .before .before .before .before .before .before .before .before .before .before .before .before .names .kept .1 .0
+same-length-7 t c = c .before .before .for-node .kept .0 ∙ c .before .before .before .before .before .before .before .before .declaration .kept .1 .1 .0 ∙ c .before .before .before .before .before .before .before .before .before .before .before .before .before .before .before .before .before .before .before .assignment .kept .1 .1 .0 ∙ c .before .before .before .before .before .before .before .before .before .before .before .before .before .before .before .before .before .before .before .before .before .before .before .before .before .before .before .before .before .before .before .before .before .before .before .names .kept .1 .0
 
 returns-4 : (t : ℕ) → for-in-lts.Need-returns-4 (claims t) (for-in-at t) for-in.Post
 unfolding run enhancedFor
-returns-4 t c = rw (← c .before .before .before .before .before .before .before .before .before .before .before .before .before .before .before .before .before .before .before .before .before .before .before .before .before .before .before .before .before .before .before .before .before .names .ensures (lower (c .before .before .before .before .before .before .before .before .before .before .before .before .before .before .before .before .before .before .before .before .before .before .before .before .before .before .before .before .before .before .before .before .before .before .before .before .before .before .args .tokens .now) (c .before .before .before .before .before .before .before .before .before .before .before .before .before .before .before .before .before .before .before .before .before .before .before .before .before .before .before .before .before .before .before .before .before .before .before .before .before .before .args .levels)) (c .before .before .before .before .before .before .before .before .before .before .before .before .before .before .before .before .before .before .before .before .before .before .before .before .before .before .before .before .before .before .before .before .before .before .before .before .before .before .args .errors .now), c .before .before .before .before .before .before .before .before .before .before .before .before .before .before .before .before .before .before .before .before .before .before .before .before .before .before .before .before .before .k .given .1, ← c .before .before .before .before .before .before .before .before .before .before .before .before .before .before .before .before .before .before .before .before .before .before .before .before .before .consume .ensures (c .before .before .before .before .before .before .before .before .before .before .before .before .before .before .before .before .before .before .before .before .before .before .before .before .before .before .before .before .before .before .before .before .before .names .last .1 .0)) (rw (c .before .before .before .before .before .before .before .before .before .before .before .before .before .before .before .before .before .before .before .before .before .enum-told2 .given .1, ← c .before .before .before .before .before .before .before .before .before .before .before .before .before .before .before .before .before .assignment .ensures, c .before .before .before .before .before .before .before .before .before .before .before .k2 .given .1) (rw (← c .before .before .before .before .before .before .declaration .ensures, c .enum-told5 .given .1)))
-
-row-requires : (t : ℕ) → for-in-lts.Need-row-requires (claims t) (for-in-at t) for-in.Post
-row-requires t c κs = search needs
-
-make-requires : (t : ℕ) → for-in-lts.Need-make-requires (claims t) (for-in-at t) for-in.Post
-make-requires t c κs = search needs
-
-same-length-8 : (t : ℕ) → for-in-lts.Need-same-length-8 (claims t) (for-in-at t) for-in.Post
-same-length-8 t c = c .before .before .before .before .before .before .before .before .before .before .before .before .before .declaration .kept .1 .0 ∙ c .before .before .before .before .before .before .before .before .before .before .before .before .before .before .before .before .before .before .before .before .before .before .before .before .assignment .kept .1 .0 ∙ c .before .before .before .before .before .before .before .before .before .before .before .before .before .before .before .before .before .before .before .before .before .before .before .before .before .before .before .before .before .before .before .before .consume .kept .1 .0
-
-same-length-9 : (t : ℕ) → for-in-lts.Need-same-length-9 (claims t) (for-in-at t) for-in.Post
-same-length-9 t c = c .before .before .make .kept .0 ∙ c .before .before .before .before .before .before .before .before .before .before .before .before .before .declaration .kept .1 .1 .0 ∙ c .before .before .before .before .before .before .before .before .before .before .before .before .before .before .before .before .before .before .before .before .before .before .before .before .assignment .kept .1 .1 .0 ∙ c .before .before .before .before .before .before .before .before .before .before .before .before .before .before .before .before .before .before .before .before .before .before .before .before .before .before .before .before .before .before .before .before .before .before .before .before .before .before .before .before .names .kept .1 .0
-
-returns-5 : (t : ℕ) → for-in-lts.Need-returns-5 (claims t) (for-in-at t) for-in.Post
-unfolding run enhancedFor
-returns-5 t c = rw (← c .before .before .before .before .before .before .before .before .before .before .before .before .before .before .before .before .before .before .before .before .before .before .before .before .before .before .before .before .before .before .before .before .before .before .before .before .before .before .before .before .names .ensures (lower (c .before .before .before .before .before .before .before .before .before .before .before .before .before .before .before .before .before .before .before .before .before .before .before .before .before .before .before .before .before .before .before .before .before .before .before .before .before .before .before .before .before .before .before .before .before .args .tokens .now) (c .before .before .before .before .before .before .before .before .before .before .before .before .before .before .before .before .before .before .before .before .before .before .before .before .before .before .before .before .before .before .before .before .before .before .before .before .before .before .before .before .before .before .before .before .before .args .levels)) (c .before .before .before .before .before .before .before .before .before .before .before .before .before .before .before .before .before .before .before .before .before .before .before .before .before .before .before .before .before .before .before .before .before .before .before .before .before .before .before .before .before .before .before .before .before .args .errors .now), c .before .before .before .before .before .before .before .before .before .before .before .before .before .before .before .before .before .before .before .before .before .before .before .before .before .before .before .before .before .before .before .before .before .before .before .before .k .given .1, ← c .before .before .before .before .before .before .before .before .before .before .before .before .before .before .before .before .before .before .before .before .before .before .before .before .before .before .before .before .before .before .before .before .consume .ensures (c .before .before .before .before .before .before .before .before .before .before .before .before .before .before .before .before .before .before .before .before .before .before .before .before .before .before .before .before .before .before .before .before .before .before .before .before .before .before .before .before .names .last .1 .0)) (rw (c .before .before .before .before .before .before .before .before .before .before .before .before .before .before .before .before .before .before .before .before .before .before .before .before .before .before .before .before .enum-told2 .given .1, ← c .before .before .before .before .before .before .before .before .before .before .before .before .before .before .before .before .before .before .before .before .before .before .before .before .assignment .ensures, c .before .before .before .before .before .before .before .before .before .before .before .before .before .before .before .before .before .before .k2 .given .1) (rw (← c .before .before .before .before .before .before .before .before .before .before .before .before .before .declaration .ensures, c .before .before .before .before .before .before .before .k3 .given .1, ← c .before .before .before .row .ensures) (rw (← c .before .before .make .ensures (c .before .before .before .before .before .before .before .before .before .before .before .before .before .declaration .last .1 .0)))))
+returns-4 t c = rw (← c .before .before .before .before .before .before .before .before .before .before .before .before .before .before .before .before .before .before .before .before .before .before .before .before .before .before .before .before .before .before .before .before .before .before .before .names .ensures (lower (c .before .before .before .before .before .before .before .before .before .before .before .before .before .before .before .before .before .before .before .before .before .before .before .before .before .before .before .before .before .before .before .before .before .before .before .before .before .before .before .before .args .tokens .now) (c .before .before .before .before .before .before .before .before .before .before .before .before .before .before .before .before .before .before .before .before .before .before .before .before .before .before .before .before .before .before .before .before .before .before .before .before .before .before .before .before .args .levels)) (c .before .before .before .before .before .before .before .before .before .before .before .before .before .before .before .before .before .before .before .before .before .before .before .before .before .before .before .before .before .before .before .before .before .before .before .before .before .before .before .before .args .errors .now), c .before .before .before .before .before .before .before .before .before .before .before .before .before .before .before .before .before .before .before .before .before .before .before .before .before .before .before .before .before .before .before .k .given .1, ← c .before .before .before .before .before .before .before .before .before .before .before .before .before .before .before .before .before .before .before .before .before .before .before .before .before .before .before .consume .ensures (c .before .before .before .before .before .before .before .before .before .before .before .before .before .before .before .before .before .before .before .before .before .before .before .before .before .before .before .before .before .before .before .before .before .before .before .names .last .1 .0)) (rw (c .before .before .before .before .before .before .before .before .before .before .before .before .before .before .before .before .before .before .before .before .before .before .before .enum-told2 .given .1, ← c .before .before .before .before .before .before .before .before .before .before .before .before .before .before .before .before .before .before .before .assignment .ensures, c .before .before .before .before .before .before .before .before .before .before .before .before .before .k2 .given .1) (rw (← c .before .before .before .before .before .before .before .before .declaration .ensures, ← c .before .before .for-node .ensures (c .before .before .before .before .before .before .before .before .declaration .last .1 .0))))
 
 pub for-in-ok : {M : Type 1} (t : ℕ) → for-in-lts.Closed (claims t) (for-in-at t) for-in.Post M
 for-in-ok t = for-in-lts.spec (claims t) (for-in-at t) for-in.Post
@@ -127,13 +107,7 @@ for-in-ok t = for-in-lts.spec (claims t) (for-in-at t) for-in.Post
     (same-length-5 t)
     (returns-3 t)
     (declaration-requires t)
-    (enum-known-k-3 t)
-    (enum-told-5 t)
+    (for-node-requires t)
     (same-length-6 t)
     (same-length-7 t)
     (returns-4 t)
-    (row-requires t)
-    (make-requires t)
-    (same-length-8 t)
-    (same-length-9 t)
-    (returns-5 t)
