@@ -16,8 +16,15 @@ use std::process::{self, Command};
 const EXPORTS: [&str; 2] = ["reader", "pair"];
 
 fn main() {
-    for part in ["../crates", "../crates.txt", "build.rs"] {
+    for part in ["../crates.txt", "build.rs"] {
         println!("cargo::rerun-if-changed={part}");
+    }
+    // A library of the toolchain has no folder here.
+    for name in needed()
+        .iter()
+        .filter(|name| Path::new("../crates").join(name).is_dir())
+    {
+        println!("cargo::rerun-if-changed=../crates/{name}");
     }
     for name in ["PATH", "RATTLE_HOME"] {
         println!("cargo::rerun-if-env-changed={name}");
@@ -28,6 +35,25 @@ fn main() {
         println!("cargo::error={what}");
         process::exit(1)
     });
+}
+
+/// The crates that are linked and all that they use, by the list. What else stands in `crates/` is no
+/// part of the library, and a change of it is no reason to make the library again.
+fn needed() -> Vec<String> {
+    let list = fs::read_to_string("../crates.txt").expect("the list of crates is there");
+    let mut names = EXPORTS.map(str::to_string).to_vec();
+    let mut at = 0;
+    while at < names.len() {
+        let start = format!("{}:", names[at]);
+        let line = list.lines().find_map(|line| line.strip_prefix(&start));
+        for name in line.unwrap_or_default().split_whitespace() {
+            if !names.iter().any(|known| known == name) {
+                names.push(name.to_string());
+            }
+        }
+        at += 1;
+    }
+    names
 }
 
 /// Says in a line what can't be had.

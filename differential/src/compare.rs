@@ -3,10 +3,10 @@
 use std::fmt::{self, Write as _};
 use std::slice;
 
-use crate::dice::Dice;
 use crate::host::{Answer, DecodeAnswer, DecodeCall, Host, LexAnswer, LexCall, ReadCall, Request};
 use crate::whole::{read_differs, Wanted};
 use expected::lexing::{expect, Decoding, Error, Expected, Lexing, Token};
+use expected::mixed_dice::Dice;
 use expected::records::{outcome, ERROR_WORDS, TOKEN_WORDS};
 
 /// A source and the calls to make with it.

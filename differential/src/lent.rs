@@ -12,8 +12,8 @@ use expected::records::{
 };
 use kettleplume::border::{Answer, Parser};
 
-use crate::dice::Dice;
 use crate::parse_scripts::Scripts;
+use expected::mixed_dice::Dice;
 
 /// Two kinds of tokens, and how many kinds there are.
 const EOF: u32 = oracle::token::Token::EOF as u32;

@@ -6,10 +6,8 @@
 
 pub mod blackout;
 pub mod compare;
-pub mod dice;
 pub mod host;
 pub mod lent;
-pub mod lex_scripts;
 pub mod limits;
 pub mod lists;
 pub mod parse_scripts;
@@ -20,8 +18,8 @@ pub mod show;
 pub mod whole;
 
 use compare::{Difference, Trial};
-use dice::Dice;
-use lex_scripts::{any_script, damaged, script};
+use expected::lex_scripts::{any_script, damaged, script};
+use expected::mixed_dice::Dice;
 use lists::{
     all_of_length, longest, near_keywords, numbers_about_the_limits, singles_and_pairs, ALPHABET,
     IN_NUMBERS, IN_STRINGS,
@@ -39,6 +37,8 @@ pub struct Sizes {
     pub scripts: usize,
     /// So many scripts for short tables, and as many for decoding.
     pub refused: usize,
+    /// Of the boundaries of the text test, each that many-th.
+    pub edges: usize,
 }
 
 impl Sizes {
@@ -48,6 +48,7 @@ impl Sizes {
             units: 4,
             scripts: 200_000,
             refused: 1_000,
+            edges: 1,
         }
     }
 
@@ -62,6 +63,7 @@ impl Sizes {
                 .unwrap_or(0),
             scripts: count,
             refused: count / 200,
+            edges: 1,
         }
     }
 }
@@ -118,8 +120,9 @@ pub fn edges(comparison: &mut Comparison, sizes: &Sizes, seed: u64) -> Result<()
     });
     comparison.group("decodings", short, decodings)?;
     comparison.group("about 65,535 bytes", about_the_longest(), refusals::sizes)?;
-    comparison.group("text test", text_edges(), text_edge)?;
-    let inside = text_edges().map(between_strings);
+    let alone = text_edges().step_by(sizes.edges);
+    comparison.group("text test", alone, text_edge)?;
+    let inside = text_edges().step_by(sizes.edges).map(between_strings);
     comparison.group("text test, inside", inside, text_edge)
 }
 
@@ -135,6 +138,8 @@ pub struct ReadSizes {
     pub long: usize,
     /// Of the longest scripts and the levels, each that many-th.
     pub step: usize,
+    /// Of the boundaries of the text test, each that many-th.
+    pub edges: usize,
 }
 
 impl ReadSizes {
@@ -146,6 +151,7 @@ impl ReadSizes {
             rooms: 200,
             long: 5,
             step: 7,
+            edges: 1,
         }
     }
 
@@ -157,6 +163,7 @@ impl ReadSizes {
             rooms: count / 50,
             long: count / 5_000,
             step: 1,
+            edges: 1,
         }
     }
 }
@@ -210,7 +217,8 @@ pub fn readings_at_limits(
     comparison.group("levels", levels, limits::exact)?;
     let about = about_the_longest();
     comparison.group("about 65,535 bytes", about, limits::refusals)?;
-    comparison.group("text test", text_edges(), limits::refusals)
+    let edges = text_edges().step_by(sizes.edges);
+    comparison.group("text test", edges, limits::refusals)
 }
 
 /// Whole readings of scripts of the greatest length.

@@ -8,8 +8,8 @@ use expected::scripts::{
 use oracle::logged::LEVELS;
 
 use crate::compare::Trial;
-use crate::lex_scripts::{KEYWORDS, MARKS, WRONG};
 use crate::whole::Tried;
+use expected::lex_scripts::{KEYWORDS, MARKS, WRONG};
 
 /// So many pairs of error and node rooms are all tried; of more, some.
 const PAIRS: usize = 120;

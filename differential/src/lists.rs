@@ -1,6 +1,6 @@
 //! Lists of scripts that are complete: every one of a kind.
 
-use crate::lex_scripts::{KEYWORDS, MARKS, WRONG};
+use expected::lex_scripts::{KEYWORDS, MARKS, WRONG};
 use expected::lexing::LONGEST;
 
 /// The bytes that matter to the lexer, one or two of each class, and a letter of two bytes.

@@ -1,6 +1,5 @@
 //! `differential lex COUNT SEED` and `differential read COUNT SEED` are the long runs;
-//! `differential blackout COUNT SEED` tries what may be blacked out, and without words writes the
-//! pairs that the prover tries; `differential show FILE` prints what the library makes of a script.
+//! `differential blackout COUNT SEED` tries what may be blacked out; `differential show FILE` prints what the library makes of a script.
 
 use std::io::Write as _;
 use std::process::ExitCode;
@@ -11,6 +10,7 @@ use differential::run::Comparison;
 use differential::show::show;
 use differential::{blackout, lex, read, ReadSizes, Sizes};
 use oracle::on_large_stack;
+use vectors::blackout::pairs::random;
 
 fn main() -> ExitCode {
     let words: Vec<String> = std::env::args().skip(1).collect();
@@ -27,10 +27,9 @@ fn main() -> ExitCode {
             }
             _ => usage(),
         },
-        ["blackout"] => write_pairs(),
         ["blackout", "random", count, seed] => match (count.parse(), seed.parse()) {
             (Ok(count), Ok(seed)) => {
-                print!("{}", blackout::pairs::random(count, seed).text);
+                print!("{}", random(count, seed));
                 ExitCode::SUCCESS
             }
             _ => usage(),
@@ -85,15 +84,6 @@ fn black_out(count: usize, seed: u64) -> ExitCode {
     }
 }
 
-/// Writes the theorems about pairs of scripts.
-fn write_pairs() -> ExitCode {
-    for file in blackout::pairs::files() {
-        file.write().expect("the file is written");
-        println!("{}", file.name);
-    }
-    ExitCode::SUCCESS
-}
-
 fn print(file: &str) -> ExitCode {
     let source = std::fs::read(file).map_err(|error| format!("{file}: {error}"));
     match source.and_then(|source| show(&mut Host::start(), &source)) {
@@ -114,8 +104,7 @@ fn usage() -> ExitCode {
         "differential lex COUNT SEED: compares lexings of COUNT generated scripts and more\n\
          differential read COUNT SEED: compares whole readings of COUNT generated scripts and more\n\
          differential blackout COUNT SEED: tries COUNT pairs that may be blacked out\n\
-         differential blackout: writes the pairs that the prover tries\n\
-         differential blackout random COUNT SEED: prints COUNT random ones\n\
+         differential blackout random COUNT SEED: prints COUNT random ones for the prover\n\
          differential show FILE: prints the tokens and errors of a script"
     );
     ExitCode::from(2)

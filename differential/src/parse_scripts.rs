@@ -5,9 +5,9 @@ use expected::maker::Maker;
 use expected::spellings::{BETWEEN, NUMBERS, STRINGS};
 use oracle::{read, Stop};
 
-use crate::dice::Dice;
-use crate::lex_scripts::damaged;
 use crate::lists::all_of_length;
+use expected::lex_scripts::damaged;
+use expected::mixed_dice::Dice;
 
 /// One token of each kind but EOF, each with a blank so that no two run together.
 pub const TOKENS: [&str; 49] = [

@@ -2,9 +2,9 @@
 //! text test, and decoding.
 
 use crate::compare::{Call, Trial, Want};
-use crate::dice::Dice;
 use crate::host::{DecodeCall, LexCall};
 use expected::lexing::{expect, expect_decoding, Expected, Lexing, LONGEST};
+use expected::mixed_dice::Dice;
 use expected::records::{ERROR_WORDS, TOKEN_WORDS};
 
 /// One lexing with each room from none to one more than is needed: for tokens with every spare

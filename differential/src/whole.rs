@@ -10,8 +10,8 @@ use expected::whole::{known, Answer, Known, Whole};
 use kettleplume::Rooms;
 
 use crate::compare::{table_differs, Call, Trial};
-use crate::dice::Dice;
 use crate::host::{ReadAnswer, ReadCall};
+use expected::mixed_dice::Dice;
 
 /// The longest script that is read one statement at a time too.
 const LONG: usize = 4096;

@@ -5,9 +5,11 @@
 //! any size.
 
 pub mod dice;
+pub mod lex_scripts;
 pub mod lexing;
 pub mod maker;
 pub mod marks;
+pub mod mixed_dice;
 pub mod nodes;
 pub mod scripts;
 pub mod spellings;

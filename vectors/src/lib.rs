@@ -4,10 +4,13 @@
 //! of its standard output; `whole` has scripts as they are, and the tables that whole readings leave.
 //! The answers come from a judge in Rust that shares nothing with the Rattle code: the original
 //! where it has such a thing, Rust's own library, or a plain rendering of document 01.
-//! `definition` makes theorems instead: scripts with the original's answers, for the prover.
-//! `outlines` makes what the program `outline` has to print.
+//! `definition` and `blackout` make theorems instead, for the prover: scripts with the original's
+//! answers, and pairs of scripts. `outlines` makes what the program `outline` has to print. `files`
+//! has all that is made, and the command that makes it.
 
+pub mod blackout;
 pub mod definition;
+pub mod files;
 pub mod folders;
 pub mod leaves;
 pub mod lexing;
@@ -20,7 +23,7 @@ use sheet::Sheet;
 /// All vectors and answers, with how they were made in front.
 pub fn sheet() -> Sheet {
     let mut sheet = Sheet::default();
-    sheet.comment("Made by the Rust crate `vectors` of this repository: cargo run -p vectors");
+    sheet.comment(&files::made_by());
     sheet.comment("Each line is a vector; its answer is the line of `stdout` with the same letter");
     sheet.comment("k x n v e s d u t o p l z r: the leaf crates, see vectors/src/leaves");
     sheet.comment("Their random ones: xorshift64, the seeds stand beside the generators");

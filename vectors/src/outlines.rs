@@ -10,7 +10,8 @@ use expected::records::outcome;
 use oracle::on_large_stack;
 
 use crate::definition::{case, End, Script};
-use crate::folders::{path, root, OUTCOMES};
+use crate::files::File;
+use crate::folders::{root, OUTCOMES};
 use crate::lexing::judge::token_words;
 
 /// The most bytes that `outline` has room for, and its rooms for tokens, errors and nodes.
@@ -119,20 +120,23 @@ pub fn examples() -> Vec<PathBuf> {
 
 /// All files that are made here: the examples' outlines, and what `outcomes` reads and prints. It
 /// is run on the examples too.
-pub fn files() -> Vec<(PathBuf, Vec<u8>)> {
+pub fn files() -> Vec<File> {
     let (mut files, mut scripts) = (vec![], endings());
     for example in examples() {
         let script = fs::read(&example).expect("the script is there");
-        let outline = outline(&script, None).into_bytes();
-        files.push((example.with_extension("outline"), outline));
+        files.push(File {
+            path: example.with_extension("outline"),
+            bytes: outline(&script, None).into_bytes(),
+        });
         scripts.push(Ending { script, ends: None });
     }
     let mut stdout = String::new();
     assert!(scripts.len() <= 26, "a letter for each");
     for (letter, ending) in ('a'..='z').zip(scripts) {
         stdout += &outline(&ending.script, ending.ends);
-        files.push((path(OUTCOMES, &format!("data/{letter}.gr")), ending.script));
+        let name = format!("data/{letter}.gr");
+        files.push(File::of(OUTCOMES, &name, ending.script));
     }
-    files.push((path(OUTCOMES, "stdout"), stdout.into_bytes()));
+    files.push(File::of(OUTCOMES, "stdout", stdout));
     files
 }

@@ -2,9 +2,8 @@
 
 use std::collections::{BTreeMap, HashSet};
 use std::fmt::{Display, Write};
-use std::{fs, io};
 
-use crate::folders::path;
+use crate::files::File;
 
 /// A program reads all of its input into a buffer of this size.
 const INPUT_LIMIT: usize = 262_144;
@@ -52,11 +51,13 @@ impl Sheet {
         counts
     }
 
-    /// Writes both files of a Rattle program.
-    pub fn write(&self, program: &str) -> io::Result<()> {
+    /// Both files of a Rattle program.
+    pub fn files(self, program: &str) -> Vec<File> {
         assert!(self.stdin.len() <= INPUT_LIMIT, "too long an input");
-        fs::write(path(program, "stdin"), &self.stdin)?;
-        fs::write(path(program, "stdout"), &self.stdout)
+        vec![
+            File::of(program, "stdin", self.stdin),
+            File::of(program, "stdout", self.stdout),
+        ]
     }
 }
 

@@ -2,7 +2,6 @@
 //! and what the whole reading makes of them, every word of each table included.
 
 use std::fmt::Write as _;
-use std::{fs, io};
 
 use expected::dice::Dice;
 use expected::maker::Maker;
@@ -13,7 +12,8 @@ use expected::scripts::{
 use expected::whole::{known, Answer, Known};
 use oracle::on_large_stack;
 
-use crate::folders::{path, REPLAY_WHOLE};
+use crate::files::{made_by, File};
+use crate::folders::REPLAY_WHOLE;
 
 /// The size of the program's input buffer, and that of its tables in words.
 const INPUT: usize = 262_144;
@@ -41,8 +41,7 @@ pub fn vectors() -> Vectors {
     // The trees are as deep as the scripts.
     on_large_stack(|| {
         let mut vectors = Vectors::default();
-        vectors
-            .exact("# Made by the Rust crate `vectors` of this repository: cargo run -p vectors\n");
+        vectors.exact(&format!("# {}\n", made_by()));
         vectors.listed();
         vectors.small();
         vectors.levels();
@@ -157,10 +156,12 @@ impl Vectors {
         self.stdout.push('\n');
     }
 
-    /// Writes both files of the program.
-    pub fn write_files(&self) -> io::Result<()> {
+    /// Both files of the program.
+    pub fn files(self) -> Vec<File> {
         assert!(self.stdin.len() <= INPUT, "too long an input");
-        fs::write(path(REPLAY_WHOLE, "stdin"), &self.stdin)?;
-        fs::write(path(REPLAY_WHOLE, "stdout"), &self.stdout)
+        vec![
+            File::of(REPLAY_WHOLE, "stdin", self.stdin),
+            File::of(REPLAY_WHOLE, "stdout", self.stdout),
+        ]
     }
 }

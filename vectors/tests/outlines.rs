@@ -1,22 +1,9 @@
-//! The stored outlines are those that the generator makes from the original's answers, and every
-//! outcome of document 01 occurs in them.
+//! Every outcome of document 01 occurs in the stored outlines, and its worked example is one.
 
 use std::collections::BTreeSet;
 use std::fs;
 use vectors::folders::{path, OUTCOMES, OUTLINE};
-use vectors::outlines::{examples, files, outline};
-
-#[test]
-fn stored_outlines_are_made_by_the_generator() {
-    for (file, bytes) in files() {
-        let name = file.display();
-        let stored = fs::read(&file).unwrap_or_else(|error| panic!("{name}: {error}"));
-        assert!(
-            stored == bytes,
-            "{name} differs: run `cargo run -p vectors -- outlines`"
-        );
-    }
-}
+use vectors::outlines::{examples, outline};
 
 #[test]
 fn every_outcome_occurs() {

@@ -1,23 +1,8 @@
-//! The stored vectors and answers are those that the generator makes, and its judge of texts is
-//! what it says.
+//! The vectors have all that they should have, and their judge of texts is what it says.
 
 use std::collections::BTreeSet;
-use std::fs;
 use std::str::from_utf8;
-use vectors::folders::{path, REPLAY};
 use vectors::leaves::text::is_text;
-
-#[test]
-fn stored_files_are_made_by_the_generator() {
-    let sheet = vectors::sheet();
-    for (file, made) in [("stdin", &sheet.stdin), ("stdout", &sheet.stdout)] {
-        let stored = fs::read_to_string(path(REPLAY, file)).expect("the file is there");
-        assert!(
-            stored == *made,
-            "{file} differs: run `cargo run -p vectors`"
-        );
-    }
-}
 
 /// Every vector has an answer with its letter, and no other line has one.
 #[test]

@@ -1,3 +1,4 @@
+-- Made by `cargo run --release -p vectors -- all`
 -- Pairs of scripts: whether the premise holds of them, as the one in Rust says, and whether they are read alike, as the original says.
 use Prim.Native.Nat.{ℕ}
 use mathlib.Core.Path.{_≡_, refl}

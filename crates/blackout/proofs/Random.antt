@@ -1,3 +1,4 @@
+-- Made by `cargo run --release -p vectors -- all`
 -- Random pairs of scripts: the premise holds of them where the one in Rust does.
 use mathlib.Core.Path.{_≡_, refl}
 use mathlib.Core.Bool.{true, false}

@@ -1,3 +1,4 @@
+-- Made by `cargo run --release -p vectors -- all`
 -- The most levels that are read, with what the original answers; and one more, where document 01 says outcome 8.
 use Prim.Native.Nat.{ℕ}
 use mathlib.Core.Path.{_≡_, refl}

@@ -1,3 +1,4 @@
+-- Made by `cargo run --release -p vectors -- all`
 -- Each message, newlines and assignments, with what the original answers; and small tables, which it doesn't have, with what document 01 says.
 use Prim.Native.Nat.{ℕ}
 use mathlib.Core.Path.{_≡_, refl}

@@ -1,3 +1,4 @@
+-- Made by `cargo run --release -p vectors -- all`
 -- The scripts that document 01 marks *, with what the original answers.
 use Prim.Native.Nat.{ℕ}
 use mathlib.Core.Path.{_≡_, refl}

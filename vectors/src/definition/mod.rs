@@ -8,7 +8,6 @@ mod random;
 mod scripts;
 
 use std::fmt::Write as _;
-use std::{fs, io};
 
 use expected::dice::Dice;
 use expected::maker::Maker;
@@ -16,7 +15,8 @@ use expected::records::{outcome, NODE_WORDS};
 use expected::whole::{known, Known, Whole};
 use oracle::on_large_stack;
 
-use crate::folders::{path, SCRIPTS};
+use crate::files;
+use crate::folders::SCRIPTS;
 
 /// What stands in each table before a reading.
 const FILL: u32 = 7;
@@ -158,9 +158,9 @@ impl File {
             + "agree = refl\n"
     }
 
-    pub fn write(&self) -> io::Result<()> {
-        let file = format!("proofs/{}.antt", self.name);
-        fs::write(path(SCRIPTS, &file), self.text())
+    /// The file where the crate has it.
+    pub fn file(&self) -> files::File {
+        files::File::theorems(SCRIPTS, self.name, &self.text())
     }
 }
 

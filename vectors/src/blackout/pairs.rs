@@ -2,15 +2,14 @@
 //! `crates/blackout/proofs` that are made here hold the Rattle premise against the one in Rust, and
 //! the definition of the reading against the original.
 
-use std::{fs, io};
-
 use super::change::{any_first, broken, changed, exchanged};
 use super::premise::{permitted, Clause, CLAUSES};
 use super::tables::Tables;
-use crate::dice::Dice;
+use crate::definition::{texts, HEAD, UNFOLDING};
+use crate::files::File;
+use crate::folders::BLACKOUT;
 use expected::lexing::is_text;
-use vectors::definition::{HEAD, UNFOLDING};
-use vectors::folders::{path, BLACKOUT};
+use expected::mixed_dice::Dice;
 
 /// What the premise says of a pair.
 #[derive(Debug, Clone, Copy, PartialEq, Eq)]
@@ -226,26 +225,17 @@ pub const PAIRS: &[Pair] = &[
 /// The number and the seed of the stored random pairs.
 const RANDOM: (usize, u64) = (300, 20_261_116);
 
-/// A file of the crate `blackout`: its name and its text.
-pub struct File {
-    pub name: &'static str,
-    pub text: String,
-}
-
-impl File {
-    pub fn write(&self) -> io::Result<()> {
-        let file = format!("proofs/{}.antt", self.name);
-        fs::write(path(BLACKOUT, &file), &self.text)
-    }
-}
-
 /// The pairs with what the original says of them, and random ones with the premise alone.
-pub fn files() -> [File; 2] {
-    oracle::on_large_stack(|| [stored(), random(RANDOM.0, RANDOM.1)])
+pub fn files() -> Vec<File> {
+    let [pairs, random] = oracle::on_large_stack(|| [stored(), random(RANDOM.0, RANDOM.1)]);
+    vec![
+        File::theorems(BLACKOUT, "Pairs", &pairs),
+        File::theorems(BLACKOUT, "Random", &random),
+    ]
 }
 
-/// The pairs above.
-fn stored() -> File {
+/// The text of the theorem about the pairs above.
+fn stored() -> String {
     // What has to be computed is named as in the crate `scripts`, but for that crate's own files; the
     // reading is named below.
     let others = ["use Rattle·scripts·", "use Rattle.reader."];
@@ -256,9 +246,7 @@ fn stored() -> File {
         let (p, first, second) = (permitted(first, second), quoted(first), quoted(second));
         format!("    pair {first} {second} {p} {same} ∷  -- {what}\n")
     });
-    File {
-        name: "Pairs",
-        text: format!(
+    format!(
             "-- Pairs of scripts: whether the premise holds of them, as the one in Rust says, and whether they are read alike, as the original says.\n\
              {}\n\
              use mathlib.Core.Bool.{{true, false}}\n\
@@ -272,22 +260,20 @@ fn stored() -> File {
             uses.join("\n"),
             rows.collect::<String>(),
             UNFOLDING.trim_end(),
-        ),
-    }
+        )
 }
 
-/// So many random pairs: the premise in Rust is held against the one in Rattle.
-pub fn random(count: usize, seed: u64) -> File {
+/// The text of a theorem about so many random pairs: the premise in Rust is held against the one in
+/// Rattle.
+pub fn random(count: usize, seed: u64) -> String {
     let rows = random_pairs(count, seed)
         .into_iter()
         .map(|[first, second]| {
             let (p, first, second) = (permitted(&first, &second), quoted(&first), quoted(&second));
             format!("    both {first} {second} {p} ∷\n")
         });
-    File {
-        name: "Random",
-        text: format!(
-            "-- Random pairs of scripts: the premise holds of them where the one in Rust does.\n\
+    format!(
+        "-- Random pairs of scripts: the premise holds of them where the one in Rust does.\n\
              use mathlib.Core.Path.{{_≡_, refl}}\n\
              use mathlib.Core.Bool.{{true, false}}\n\
              use mathlib.Core.List.{{List, [], _∷_}}\n\
@@ -300,15 +286,14 @@ pub fn random(count: usize, seed: u64) -> File {
              agree : premises pairs ≡ verdicts pairs\n\
              unfolding blackout alike isText keywordOf signOf\n\
              agree = refl\n",
-            rows.collect::<String>(),
-        ),
-    }
+        rows.collect::<String>(),
+    )
 }
 
 /// Short pairs of every sort.
 fn random_pairs(count: usize, seed: u64) -> Vec<[Vec<u8>; 2]> {
     let mut dice = Dice::new(seed);
-    let mut texts = vectors::definition::texts(dice.word() | 1);
+    let mut texts = texts(dice.word() | 1);
     let mut pairs = vec![];
     while pairs.len() < count {
         let first = any_first(&mut dice, &mut texts);

@@ -4,7 +4,7 @@
 //! is cut into pieces, and each is held against the same bytes of the second. Any one clause can be
 //! dropped, to show that it is needed.
 
-use crate::lex_scripts::KEYWORDS;
+use expected::lex_scripts::KEYWORDS;
 use expected::lexing::{is_text, LONGEST};
 
 /// The demand's clauses, in its order.

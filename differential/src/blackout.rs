@@ -2,23 +2,19 @@
 //! and what changes a reading is refused.
 //!
 //! `differential blackout COUNT SEED` tries random pairs on the original's whole reading and on the
-//! library's. `pairs` has a table of scripts that the Rattle definition is held against.
-
-pub mod change;
-pub mod pairs;
-pub mod premise;
-pub mod tables;
+//! library's. What the premise is, and the pairs that the Rattle definition is held against, stands in
+//! `vectors::blackout`.
 
 use std::collections::BTreeMap;
 use std::fmt::{self, Write as _};
 
-use crate::dice::Dice;
-use crate::host::{Answer, Host, ReadCall, Request};
-use change::{any_first, broken, changed, exchanged};
+use crate::host::{Answer, Host, ReadAnswer, ReadCall, Request};
 use expected::lexing::is_text;
+use expected::mixed_dice::Dice;
 use expected::records::{ERROR_WORDS, NODE_WORDS, TOKEN_WORDS};
-use premise::{permitted, Clause, CLAUSES};
-use tables::Tables;
+use vectors::blackout::change::{any_first, broken, changed, exchanged};
+use vectors::blackout::premise::{permitted, Clause, CLAUSES};
+use vectors::blackout::tables::Tables;
 
 /// So many pairs are given to the library at a time.
 const BATCH: usize = 1000;
@@ -197,7 +193,7 @@ impl Report {
         let mut readings = vec![];
         host.ask(&requests, |_, answer| {
             if let Answer::Read(reading) = answer {
-                readings.push(Tables::read(&reading, fills[readings.len()]));
+                readings.push(tables(&reading, fills[readings.len()]));
             }
         })?;
         for ([first, second], reading) in batch.iter().zip(readings.chunks_exact(2)) {
@@ -216,6 +212,31 @@ impl Report {
         }
         Ok(())
     }
+}
+
+/// The library's reading, into tables that were filled with one word: the kept tokens and errors,
+/// whether the words behind them are as they were, and the whole node table.
+fn tables(reading: &ReadAnswer, fill: u32) -> Result<Tables, String> {
+    let kept = |table: &[u32], words: usize| {
+        let (kept, behind) = table.split_at_checked(words).ok_or("more than the room")?;
+        let changed = behind.iter().any(|word| *word != fill);
+        if changed || !reading.intact {
+            return Err("a word behind the kept records is changed");
+        }
+        Ok(kept.to_vec())
+    };
+    Ok(Tables {
+        answer: vec![
+            reading.outcome,
+            reading.tokens,
+            reading.errors,
+            reading.nodes,
+            reading.first,
+        ],
+        tokens: kept(&reading.token_table, TOKEN_WORDS * reading.tokens as usize)?,
+        errors: kept(&reading.error_table, ERROR_WORDS * reading.errors as usize)?,
+        nodes: reading.node_table.clone(),
+    })
 }
 
 /// Whether the original reads the two differently, as far as it can be asked.

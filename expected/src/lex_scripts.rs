@@ -1,6 +1,6 @@
 //! Scripts for lexings: from random pieces, and damaged ones.
 
-use crate::dice::Dice;
+use crate::mixed_dice::Dice;
 
 pub const KEYWORDS: [&str; 22] = [
     "and", "class", "else", "false", "fn", "for", "if", "elif", "nil", "or", "return", "break",

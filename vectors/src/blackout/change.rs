@@ -1,8 +1,8 @@
 //! Random scripts for the premise, permitted changes of them, and changes that break one clause.
 
 use super::premise::{is_keyword, pieces, Clause, Kind, Piece};
-use crate::dice::Dice;
-use crate::lex_scripts::{damaged, name, script, string, KEYWORDS};
+use expected::lex_scripts::{damaged, name, script, string, KEYWORDS};
+use expected::mixed_dice::Dice;
 
 /// Letters of one to four bytes for strings and comments. No digit is among them: a text of a #
 /// and digits is how the tables of the original's trees mark a token.

@@ -1,5 +1,9 @@
-//! A simple generator of numbers (xorshift64): the same seed gives the same numbers.
+//! Random numbers that are the same in every run, from any seed, or from the bytes of a script.
+//!
+//! The seeds of `dice` are used as they are; here they are mixed first. What was made with the one
+//! would be something else with the other, so there are both.
 
+/// A xorshift64 generator.
 pub struct Dice(u64);
 
 impl Dice {
