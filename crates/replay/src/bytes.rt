@@ -9,6 +9,14 @@ use token::Token;
 ghost use mathlib.Core.Path.{_≡_};
 ghost use lib.ListN.{length};
 
+// Whether a vector of this letter has a byte string in front.
+pub(crate) fn has(c: u8) -> bool {
+    match c {
+        b'k' | b'x' | b'n' | b'e' | b's' | b'd' => true,
+        _ => false,
+    }
+}
+
 // A byte string has at most 256 bytes.
 pub(crate) fn vector(s: &[u8]) {
     let mut b = [0u8; 256];

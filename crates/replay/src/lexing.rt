@@ -51,14 +51,23 @@ fn with_tables(source: &[u8], tokens: &mut [u32], t: usize, errors: &mut [u32], 
 // The answer, the kept tokens, the kept errors, and how many words behind them have changed.
 fn scan(source: &[u8], tokens: &mut [u32], errors: &mut [u32]) {
     let r = lexer::scan(source, tokens, errors);
-    print::letter(b'c');
-    print::word(r.outcome);
-    print::word(r.tokens);
-    print::word(r.errors);
+    head(r.outcome, r.tokens, r.errors);
     each_token(source, tokens, r.tokens);
     each_error(errors, r.errors);
-    let t = changed(tokens, 7 * (r.tokens as usize));
-    let e = changed(errors, 3 * (r.errors as usize));
+    behind(tokens, r.tokens, errors, r.errors);
+}
+
+fn head(outcome: u32, tokens: u32, errors: u32) {
+    print::letter(b'c');
+    print::word(outcome);
+    print::word(tokens);
+    print::word(errors);
+}
+
+// How many words have changed behind so many tokens and errors.
+fn behind(tokens: &[u32], n: u32, errors: &[u32], m: u32) {
+    let t = changed(tokens, 7 * (n as usize));
+    let e = changed(errors, 3 * (m as usize));
     print::mark(b'u');
     print::number(std::num::wrapping_add_u64(t, e));
     print::end();

@@ -60,11 +60,23 @@ fn line(s: &[u8], at: usize, end: usize) {
     }
 }
 
-// The letter says what a vector's fields are: a byte string in front, a table's size in front, or numbers only. A `#` starts a comment.
+// The letter says what a vector's fields are: a byte string in front, a table's size in front, or as `others` has it.
 fn answer(s: &[u8]) {
-    match fields::letter(s) {
-        b'k' | b'x' | b'n' | b'e' | b's' | b'd' => bytes::vector(s),
-        b't' | b'o' | b'p' | b'l' | b'z' | b'r' => tables::vector(s),
+    let c = fields::letter(s);
+    if bytes::has(c) {
+        bytes::vector(s);
+        return;
+    }
+    if tables::has(c) {
+        tables::vector(s);
+        return;
+    }
+    others(s, c);
+}
+
+// Numbers only, or a source to be lexed. A `#` starts a comment.
+fn others(s: &[u8], c: u8) {
+    match c {
         b'v' => bytes::value(s),
         b'u' => bytes::too_long(s),
         b'c' => lexing::vector(s),

@@ -6,6 +6,14 @@ use records::InterpreterError;
 use records::Node;
 use records::TokenData;
 
+// Whether a vector of this letter has a table's size in front.
+pub(crate) fn has(c: u8) -> bool {
+    match c {
+        b't' | b'o' | b'p' | b'l' | b'z' | b'r' => true,
+        _ => false,
+    }
+}
+
 // The number of words stands in front; a table has at most 64.
 pub(crate) fn vector(s: &[u8]) {
     let f = fields::number(s, fields::first());
@@ -125,14 +133,22 @@ fn zero(t: &mut [u32], n: u32) {
 fn reads(t: &mut [u32], i: u32) {
     count_up(t);
     print::letter(b'r');
+    token(t, i);
+    rooms(t);
+    print::end();
+}
+
+fn token(t: &[u32], i: u32) {
     print::word(records::token_kind(t, i));
     print::word(records::token_start(t, i));
     print::word(records::token_length(t, i));
     print::word(records::token_line(t, i));
+}
+
+fn rooms(t: &[u32]) {
     print::word(records::token_room(t));
     print::word(records::error_room(t));
     print::word(records::node_room(t));
-    print::end();
 }
 
 // Each word its own index.

@@ -1,0 +1,12 @@
+-- `replay::buffer` meets its contract: by a law, since counting so many elements takes long. Assumes nothing.
+use mathlib.Core.Path.{sym}
+use Prim.Native.Nat.{ℕ}
+use lib.ListN.{length-replicate}
+use Rattle.replay.proofs.buffer.Statement.{statement}
+use Rattle.replay.proofs.buffer.Tie as tie
+
+returns : tie.Need-returns
+returns c = sym (length-replicate {A = ℕ} 262144 0)
+
+pub buffer-spec : {M : Type 1} → statement M
+buffer-spec = tie.close (tie.spec returns)
