@@ -88,6 +88,8 @@ def found(repository, name, crates, kind="function"):
 def check(repository, _):
     """Holds the made files to the record."""
     problems = record.check(repository)
+    if record.note(repository):
+        print(record.note(repository))
     if not problems:
         print(f"{len(targets(repository))} targets stand as they were made")
     return problems

@@ -119,11 +119,17 @@ def toolchain():
     return subprocess.run(["rt", "version"], capture_output=True, text=True, check=False).stdout.strip()
 
 
+def note(repository):
+    """Whether another toolchain is at hand than the one that the files were made with: they may come out otherwise, and still be right."""
+    written_by, _ = read(repository)
+    here = toolchain()
+    return f"made with {written_by}; here is {here}" if here and here != written_by else ""
+
+
 def check(repository):
     """What does not stand as the record has it, a line for each."""
-    written_by, recorded = read(repository)
-    here = toolchain()
-    found = [f"made with {written_by}; here is {here}: tools/remake all"] if here and here != written_by else []
+    _, recorded = read(repository)
+    found = []
     known = made.targets(repository)
     for target in known:
         if str(target) not in recorded:

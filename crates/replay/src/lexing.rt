@@ -19,13 +19,16 @@ fn decoded(s: &[u8], b: &mut [u8]) {
     }
 }
 
-// A table has at most 4,096 words, each 7 before.
+// What every word of a table is before.
+const BEFORE: u32 = 7;
+
+// A table has at most 4,096 words.
 fn on_source(s: &[u8], f: Field, source: &[u8]) {
     let t = fields::number(s, f);
     let e = fields::number(s, t);
     if fields::whole(s, e) {
-        let mut tokens = [7u32; 4096];
-        let mut errors = [7u32; 4096];
+        let mut tokens = [BEFORE; 4096];
+        let mut errors = [BEFORE; 4096];
         with_tables(
             source,
             &mut tokens,
@@ -66,8 +69,8 @@ fn head(outcome: u32, tokens: u32, errors: u32) {
 
 // How many words have changed behind so many tokens and errors.
 fn behind(tokens: &[u32], n: u32, errors: &[u32], m: u32) {
-    let t = changed(tokens, 7 * (n as usize));
-    let e = changed(errors, 3 * (m as usize));
+    let t = changed(tokens, records::TOKEN_WIDTH * (n as usize));
+    let e = changed(errors, records::ERROR_WIDTH * (m as usize));
     print::mark(b'u');
     print::number(std::num::wrapping_add_u64(t, e));
     print::end();
@@ -76,7 +79,7 @@ fn behind(tokens: &[u32], n: u32, errors: &[u32], m: u32) {
 fn each_token(source: &[u8], tokens: &[u32], n: u32) {
     let mut i = 0;
     while i < n {
-        token(source, tokens, 7 * (i as usize));
+        token(source, tokens, records::TOKEN_WIDTH * (i as usize));
         i += 1;
     }
 }
@@ -89,7 +92,7 @@ fn token(source: &[u8], tokens: &[u32], at: usize) {
 }
 
 fn record(source: &[u8], t: &[u32]) {
-    if t.len() < 7 {
+    if t.len() < records::TOKEN_WIDTH {
         return;
     }
     print::mark(b't');
@@ -156,7 +159,7 @@ fn into(source: &[u8], start: usize, out: &mut [u8]) {
 fn each_error(errors: &[u32], n: u32) {
     let mut i = 0;
     while i < n {
-        error(errors, 3 * (i as usize));
+        error(errors, records::ERROR_WIDTH * (i as usize));
         i += 1;
     }
 }
@@ -169,7 +172,7 @@ fn error(errors: &[u32], at: usize) {
 }
 
 fn message(e: &[u32]) {
-    if e.len() < 3 {
+    if e.len() < records::ERROR_WIDTH {
         return;
     }
     print::mark(b'e');
@@ -178,7 +181,7 @@ fn message(e: &[u32]) {
     print::word(e[2]);
 }
 
-// How many words from a place on are not 7. No table is so long that the sum could wrap.
+// How many words from a place on are not as they were before. No table is so long that the sum could wrap.
 fn changed(t: &[u32], from: usize) -> u64 {
     let mut n = 0;
     let mut i = from;
@@ -190,5 +193,5 @@ fn changed(t: &[u32], from: usize) -> u64 {
 }
 
 fn is_changed(w: u32) -> u64 {
-    if w == 7 { 0 } else { 1 }
+    if w == BEFORE { 0 } else { 1 }
 }
