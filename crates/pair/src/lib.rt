@@ -5,6 +5,7 @@ ghost use Prim.Native.Nat.{ℕ};
 ghost use Rattle.pair.specs.Pair.{left, leaving, markedAs, final, restOf, begun, noEof, onlyEof, fitsIn, refusedAs, oneOf, nextOf};
 use parser::Got;
 use reader::Answer;
+use records::Outcome;
 use token::Token;
 
 // What the host keeps between two calls: the cursor, the open loops, how many tokens, errors and nodes stand in the tables, the first and the last
@@ -77,9 +78,9 @@ fn rest(tokens: &[u32], nodes: &mut [u32], p: Parser) -> Stepped
 {
     let at = p.current;
     if parser::kind_at(tokens, at) == Token::EOF {
-        return finish(nodes, p, 0);
+        return finish(nodes, p, Outcome::ENDED);
     }
-    mark(p, 0, 19)
+    mark(p, 0, Outcome::GOES_ON)
 }
 
 // Whether none of the first n tokens is EOF.
@@ -135,7 +136,7 @@ fn one(tokens: &[u32], errors: &mut [u32], nodes: &mut [u32], p: Parser) -> Step
 {
     let at = p.current;
     if parser::kind_at(tokens, at) == Token::EOF {
-        return finish(nodes, p, 0);
+        return finish(nodes, p, Outcome::ENDED);
     }
     let s = parser::State {
         current: p.current,
@@ -158,7 +159,7 @@ fn one(tokens: &[u32], errors: &mut [u32], nodes: &mut [u32], p: Parser) -> Step
                 first: p.first,
                 last: p.last,
                 ended: 0,
-                outcome: 19,
+                outcome: Outcome::GOES_ON,
             },
             o,
         ),
@@ -178,7 +179,7 @@ fn one(tokens: &[u32], errors: &mut [u32], nodes: &mut [u32], p: Parser) -> Step
                     first,
                     last: n.node,
                     ended: 0,
-                    outcome: 19,
+                    outcome: Outcome::GOES_ON,
                 },
             )
         }
@@ -208,9 +209,9 @@ pub fn start(
         first: 0,
         last: 0,
         ended: 0,
-        outcome: 19,
+        outcome: Outcome::GOES_ON,
     };
-    if d.outcome == 0 {
+    if d.outcome == Outcome::ENDED {
         return rest(tokens, nodes, p);
     }
     mark(p, 1, d.outcome)
@@ -236,7 +237,7 @@ pub fn step(
         return Stepped {
             parser: p,
             answer: Answer {
-                outcome: 18,
+                outcome: Outcome::DOES_NOT_FIT,
                 tokens: 0,
                 errors: 0,
                 nodes: 0,

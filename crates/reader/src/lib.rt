@@ -6,6 +6,7 @@ ghost use Rattle.strings.specs.Strings.{decodeOf, Decoding};
 ghost use Rattle.reader.specs.Entry.{entered, Enters};
 ghost use Rattle.reader.specs.Reading.{reading, Answers};
 use lexer::Scanned;
+use records::Outcome;
 use strings::Decoded;
 
 // What a reading answers: the outcome, how many tokens, errors and nodes are kept, and the first statement, 0 where none is.
@@ -25,7 +26,10 @@ pub fn enter(source: &[u8], tokens: &mut [u32], errors: &mut [u32], nodes: &mut 
         r (now (tokens .exit)) (now (errors .exit)) (now (nodes .exit)) ⌝ }
 {
     let d = lexer::scan(source, tokens, errors);
-    if (d.outcome != 0) & (d.outcome != 3) & (d.outcome != 4) {
+    if (d.outcome != Outcome::ENDED)
+        & (d.outcome != Outcome::NOT_TEXT)
+        & (d.outcome != Outcome::TOO_LONG)
+    {
         records::zero_rest(nodes, 0);
     }
     d
@@ -37,7 +41,7 @@ pub fn read(source: &[u8], tokens: &mut [u32], errors: &mut [u32], nodes: &mut [
         r (now (tokens .exit)) (now (errors .exit)) (now (nodes .exit)) ⌝ }
 {
     let d = enter(source, tokens, errors, nodes);
-    if d.outcome == 0 {
+    if d.outcome == Outcome::ENDED {
         let p = statements::parse(tokens, errors, nodes, d.errors);
         return Answer {
             outcome: p.outcome,
