@@ -37,8 +37,6 @@ pub struct Sizes {
     pub scripts: usize,
     /// So many scripts for short tables, and as many for decoding.
     pub refused: usize,
-    /// Of the boundaries of the text test, each that many-th.
-    pub edges: usize,
 }
 
 impl Sizes {
@@ -48,7 +46,6 @@ impl Sizes {
             units: 4,
             scripts: 200_000,
             refused: 1_000,
-            edges: 1,
         }
     }
 
@@ -63,7 +60,6 @@ impl Sizes {
                 .unwrap_or(0),
             scripts: count,
             refused: count / 200,
-            edges: 1,
         }
     }
 }
@@ -120,9 +116,9 @@ pub fn edges(comparison: &mut Comparison, sizes: &Sizes, seed: u64) -> Result<()
     });
     comparison.group("decodings", short, decodings)?;
     comparison.group("about 65,535 bytes", about_the_longest(), refusals::sizes)?;
-    let alone = text_edges().step_by(sizes.edges);
+    let alone = text_edges();
     comparison.group("text test", alone, text_edge)?;
-    let inside = text_edges().step_by(sizes.edges).map(between_strings);
+    let inside = text_edges().map(between_strings);
     comparison.group("text test, inside", inside, text_edge)
 }
 
@@ -138,8 +134,6 @@ pub struct ReadSizes {
     pub long: usize,
     /// Of the longest scripts and the levels, each that many-th.
     pub step: usize,
-    /// Of the boundaries of the text test, each that many-th.
-    pub edges: usize,
 }
 
 impl ReadSizes {
@@ -151,7 +145,6 @@ impl ReadSizes {
             rooms: 200,
             long: 5,
             step: 7,
-            edges: 1,
         }
     }
 
@@ -163,7 +156,6 @@ impl ReadSizes {
             rooms: count / 50,
             long: count / 5_000,
             step: 1,
-            edges: 1,
         }
     }
 }
@@ -217,7 +209,7 @@ pub fn readings_at_limits(
     comparison.group("levels", levels, limits::exact)?;
     let about = about_the_longest();
     comparison.group("about 65,535 bytes", about, limits::refusals)?;
-    let edges = text_edges().step_by(sizes.edges);
+    let edges = text_edges();
     comparison.group("text test", edges, limits::refusals)
 }
 

@@ -7,10 +7,6 @@ use differential::run::Comparison;
 use differential::{lex, read, ReadSizes, Sizes};
 use oracle::on_large_stack;
 
-/// A part of the text test's boundaries: all of them go through the crate, and here most of the time
-/// is the pipe's and the emulator's.
-const EDGES: usize = 29;
-
 fn compare(all: fn(&mut Comparison) -> Result<(), Difference>) {
     let outcome = on_large_stack(|| all(&mut Comparison::with(Host::archive(), |_| ())));
     if let Err(difference) = outcome {
@@ -20,13 +16,7 @@ fn compare(all: fn(&mut Comparison) -> Result<(), Difference>) {
 
 #[test]
 fn lexings() {
-    compare(|comparison| {
-        let sizes = Sizes {
-            edges: EDGES,
-            ..Sizes::of(5_000)
-        };
-        lex(comparison, &sizes, 2)
-    });
+    compare(|comparison| lex(comparison, &Sizes::of(5_000), 2));
 }
 
 #[test]
@@ -37,7 +27,6 @@ fn whole_readings() {
         rooms: 20,
         long: 1,
         step: 29,
-        edges: EDGES,
     };
     compare(|comparison| read(comparison, &SIZES, 2));
 }
