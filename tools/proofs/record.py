@@ -36,11 +36,11 @@ def plain(code):
 
 
 def own_functions(repository, target):
-    """The functions whose proofs a target has, and those that the generator reads with them."""
+    """The functions whose proofs a target has."""
     folder = made.folders(repository)[target.crate]
     names = {"cycle": folder.members, "function": [target.name]}.get(target.kind)
     if names is None:
-        names = [name for one in thin.instances(folder.path / thin.ANSWERS) for name in (one.name, one.core)]
+        names = [one.name for one in thin.instances(folder.path / thin.ANSWERS)]
     return [repository.function(target.crate, name) for name in sorted(names)]
 
 

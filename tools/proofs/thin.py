@@ -55,9 +55,10 @@ class Slice:
 
 @dataclass(frozen=True)
 class Instance:
-    """A thin function, its core, and the definitions that its contract names."""
+    """A thin function, its core with the crate of that, and the definitions that its contract names."""
 
     name: str
+    home: str
     core: str
     definitions: list
     result: str
@@ -72,8 +73,8 @@ class Shape:
     """What the signatures of the thin functions tell."""
 
     def __init__(self, repository, crate, thin, core):
-        self.crate = crate
-        self.core, self.name = core.name, thin.name
+        self.repository, self.crate = repository, crate
+        self.core, self.name = core, thin.name
         self.slices = [slice_of(i, p) for i, p in enumerate(thin.parameters[1:])]
         self.written = [s for s in self.slices if s.written]
         self.read = [s for s in self.slices if not s.written]
@@ -81,9 +82,12 @@ class Shape:
         self.answer, self.stepped = thin.result, core.result
         self.struct_field, self.answer_field = fields(repository, crate, self.stepped)
         self.home = {t: repository.declares(t, crate) for t in (self.struct, self.answer, self.stepped)}
-        self.library = f"Rattle·{crate}·"
         self.count = len(self.slices)
         self.locals = self.count + 4 + 2 * len(self.written)
+
+    def module(self, crate, part):
+        """The module of a crate's `specs` or `proofs`, as the made files name it."""
+        return self.repository.module(crate, part, self.crate)
 
     def suits(self, thin, core):
         """Refuses a thin function or a core that is lent other tables, or returns something else."""
@@ -105,7 +109,7 @@ class Shape:
     def fill(self, text, **more):
         """A text with its gaps filled."""
         names = dict(P=self.struct, N=self.answer, S=self.stepped, pf=self.struct_field, af=self.answer_field,
-                     U=self.library, m=self.count, m1=self.count + 1, m2=self.count + 2, m3=self.count + 3)
+                     U=self.module(self.crate, "proofs"), m=self.count, m1=self.count + 1, m2=self.count + 2, m3=self.count + 3)
         return text % (names | more)
 
 
@@ -150,13 +154,11 @@ def head(shape):
     widths = ", ".join(sorted({s.width for s in shape.slices}))
     lines = [shape.fill(HEAD, bits=bits, widths=widths)]
     for name, alias in [(shape.struct, "P"), (shape.answer, "N"), (shape.stepped, "S")]:
-        home = shape.home[name]
-        own = home == shape.crate
-        specs = f"Rattle.{home}.specs" if own else f"Rattle.{home}.specs"
-        proofs = f"Rattle.{home}.proofs" if own else f"Rattle.{home}.proofs"
+        specs, proofs = (shape.module(shape.home[name], part) for part in ("specs", "proofs"))
         lines.append(f"use {specs}.declared.{name}.{{{name}}}")
         lines.append(f"use {proofs}.{name} as {alias}\nuse {proofs}.{name}.Laws as {alias}′")
-    lines.append(f"use {shape.library}proofs.proofs.{shape.core} as core\nuse {shape.library}proofs.proofs.{shape.name} as f\n")
+    lines.append(f"use {shape.module(shape.core.crate, 'proofs')}.{shape.core.name} as core")
+    lines.append(f"use {shape.module(shape.crate, 'proofs')}.{shape.name} as f\n")
     return lines
 
 
@@ -492,34 +494,37 @@ def walk_file(shape):
 
 def instance_file(repository, shape, instance):
     """The text of a thin function's proof."""
-    dashed = {key: name.replace("_", "-") for key, name in [("k", shape.crate), ("f", instance.name), ("g", instance.core)]}
+    key = f"{shape.crate}·{instance.name}".replace("_", "-")
+    core_key = f"{instance.home}·{instance.core}".replace("_", "-")
     homes = {repository.home(name, shape.crate) for name in instance.definitions}
     uses = "\n".join(
         f"use {home}.{{{', '.join(d for d in instance.definitions if repository.home(d, shape.crate) == home)}}}"
         for home in sorted(homes))
-    return shape.fill(INSTANCE, crate=shape.crate, f=instance.name, g=instance.core, specs=uses, xs=instance.terms(shape),
-                       kf=f"#{dashed['k']}·{dashed['f']}", kg=f"#{dashed['k']}·{dashed['g']}",
-                       cg=f"calls-{dashed['k']}·{dashed['g']}", fk=dashed["f"])
+    return shape.fill(INSTANCE, crate=shape.crate, f=instance.name, h=instance.home, g=instance.core, specs=uses,
+                       xs=instance.terms(shape), G=shape.module(instance.home, "proofs"), kf=f"#{key}", kg=f"#{core_key}",
+                       cg=f"calls-{core_key}", fk=instance.name.replace("_", "-"))
 
 
 def instances(path):
-    """The thin functions of an answer file."""
+    """The thin functions of an answer file, which lies in the folder of their crate; a core of another crate has that before its name."""
     found = []
     for kind, about, body in sections(path.read_text()):
         if kind != "thin":
             raise ValueError(f"no kind of section here: == {kind}")
         name, core = about.split()
+        home, _, core = core.rpartition("::")
         told = entries(body)
-        found.append(Instance(name, core, told.pop("definitions").split(), told.pop("result"), told))
+        found.append(Instance(name, home or path.parent.name, core, told.pop("definitions").split(), told.pop("result"), told))
     return found
 
 
 def files(repository, crate, path):
     """All files of a crate's thin functions, path to text."""
     thin = instances(path)
-    shape = Shape(repository, crate, repository.function(crate, thin[0].name), repository.function(crate, thin[0].core))
-    for one in thin:
-        shape.suits(repository.function(crate, one.name), repository.function(crate, one.core))
+    pairs = [(repository.function(crate, one.name), repository.function(one.home, one.core)) for one in thin]
+    shape = Shape(repository, crate, *pairs[0])
+    for pair in pairs:
+        shape.suits(*pair)
     folder = repository.folder(crate) / "proofs"
     made = {folder / "Thin.antt": walk_file(shape)}
     for one in thin:

@@ -204,20 +204,20 @@ MEETS = '''\
       (walks 𝓤 H A W k (𝓣 .C) (𝓣 .Λ) (fmOf 𝓤 H (W .laws) 𝓣) known)'''
 
 INSTANCE = '''\
--- `%(crate)s::%(f)s` meets its contract: it is the thin function of `Thin.antt` over `%(g)s`, of which the proof knows only that it meets its contract.
+-- `%(crate)s::%(f)s` meets its contract: it is the thin function of `Thin.antt` over `%(h)s::%(g)s`, of which the proof knows only that it meets its contract.
 -- Assumes nothing.
 use contract.Running.{givenOf, tables, tablesOf}
 use denote.Triple.Spec.{tripleOf}
 use denote.Triple.Table.{entered, cited}
 %(specs)s
-use %(U)sproofs.proofs.Thin.{Core, thin-meets}
-use %(U)sproofs.proofs.%(g)s.Symbol as core-def
-use %(U)sproofs.proofs.%(g)s.Symbol.{name as %(kg)s}
-use %(U)sproofs.proofs.%(g)s.Met as core-thm
-use %(U)sproofs.proofs.%(f)s.Key.{name as %(kf)s}
-use %(U)sproofs.proofs.%(f)s as f
-use %(U)sproofs.proofs.%(f)s.Statement as stated
-use %(U)sproofs.proofs.%(f)s.Code as code
+use %(U)s.Thin.{Core, thin-meets}
+use %(G)s.%(g)s.Symbol as core-def
+use %(G)s.%(g)s.Symbol.{name as %(kg)s}
+use %(G)s.%(g)s.Met as core-thm
+use %(U)s.%(f)s.Key.{name as %(kf)s}
+use %(U)s.%(f)s as f
+use %(U)s.%(f)s.Statement as stated
+use %(U)s.%(f)s.Code as code
 
 pub %(fk)s-spec : {M : Type 1} → stated.statement M
 unfolding code.routine tablesOf

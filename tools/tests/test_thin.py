@@ -7,7 +7,7 @@ from proofs import thin
 from proofs.repository import Repository
 from proofs.script import Script
 
-CODE = """
+CORE = """
 pub struct Stepped {
     pub parser: Parser,
     pub answer: Answer,
@@ -17,11 +17,12 @@ pub struct Parser { pub at: u32 }
 
 pub struct Answer { pub outcome: u32 }
 
-fn step(source: &[u8], %(core)s p: Parser) -> Stepped { q }
-
-pub extern "C" fn go_on(parser: &mut Parser, source: &[u8], %(thin)s) -> Answer { a }
+pub fn step(source: &[u8], %s, p: Parser) -> Stepped { q }
 """
-ANSWERS = """== thin go_on step
+THIN = """
+pub extern "C" fn go_on(parser: &mut Parser, source: &[u8], %s) -> Answer { a }
+"""
+ANSWERS = """== thin go_on %sstep
 definitions: nextOf
 result: (λ s t p. nextOf t p)
 tokens: (λ s t p. tokensOf t p)
@@ -35,15 +36,17 @@ class Walks(unittest.TestCase):
         self.addCleanup(place.cleanup)
         self.root = Path(place.name)
 
-    def made(self, lent, core=None):
-        """The files for thin functions that are lent some tables."""
-        files = {"crates.txt": "pair:\n", "crates/pair/src/lib.rt": CODE % {"thin": lent, "core": (core or lent) + ","},
-                 "crates/pair/specs/Pair.antt": "unfoldable pub nextOf : ℕ\n", "tools/ans/pair/thin.txt": ANSWERS}
-        for name, text in files.items():
-            path = self.root / name
-            path.parent.mkdir(parents=True, exist_ok=True)
-            path.write_text(text)
-        texts = thin.files(Repository(self.root), "pair", self.root / "tools/ans/pair/thin.txt")
+    def made(self, lent, core=None, home="pair"):
+        """The files for thin functions that are lent some tables, over a core that stands in some crate."""
+        for folder in ("crates/pair/src", "crates/steps/src", "crates/pair/specs", "tools/ans/pair"):
+            (self.root / folder).mkdir(parents=True)
+        answers = self.root / "tools/ans/pair/thin.txt"
+        answers.write_text(ANSWERS % ("" if home == "pair" else f"{home}::"))
+        (self.root / "crates.txt").write_text("steps:\npair: steps\n")
+        (self.root / "crates/pair/src/lib.rt").write_text(THIN % lent)
+        (self.root / "crates" / home / "src/core.rt").write_text(CORE % (core or lent))
+        (self.root / "crates/pair/specs/Pair.antt").write_text("unfoldable pub nextOf : ℕ\n")
+        texts = thin.files(Repository(self.root), "pair", answers)
         return {path.relative_to(self.root / "crates/pair/proofs").as_posix(): text for path, text in texts.items()}
 
     def test_one_walk_and_an_instance(self):
@@ -57,6 +60,13 @@ class Walks(unittest.TestCase):
         self.assertIn("(E-tokens E-index : Of (List ℕ))", made["Thin.antt"])
         self.assertIn("lent w32 3 7 8 (lent w32 4 9 10 (", made["Thin.antt"])
         self.assertIn("(λ s t p. indexOf t p) 𝓤", made["go_on/Proof.antt"])
+
+    def test_a_core_of_another_crate_is_seen_through_its_facade(self):
+        made = self.made("tokens: &mut [u32]", home="steps")
+        self.assertIn("use Rattle.steps.proofs.step as core\nuse Rattle.pair.proofs.go_on as f", made["Thin.antt"])
+        self.assertIn("use Rattle.steps.proofs.step.Symbol.{name as #steps·step}", made["go_on/Proof.antt"])
+        self.assertIn("use Rattle.pair.proofs.go_on.Key.{name as #pair·go-on}", made["go_on/Proof.antt"])
+        self.assertIn("code.calls-steps·step", made["go_on/Proof.antt"])
 
     def test_a_core_that_takes_other_tables_is_refused(self):
         self.assertRaises(ValueError, self.made, "tokens: &mut [u32]", "tokens: &[u32]")

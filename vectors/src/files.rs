@@ -3,7 +3,7 @@
 //! | Files | Where the command stands |
 //! |---|---|
 //! | `crates/scripts/proofs/*.antt`, save `Cases` and `Lib` | first line |
-//! | `crates/blackout/proofs/Pairs.antt`, `Random.antt` | first line |
+//! | `crates/blackout/proofs/Pairs.antt`, `Random.antt`, `crates/alike/proofs/Pairs.antt` | first line |
 //! | `stdin` of the program that replays vectors | first line |
 //! | its `stdout` | here: each line answers one of `stdin` |
 //! | `stdin` of the program that replays whole readings | in the first script, a comment |

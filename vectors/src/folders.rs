@@ -14,6 +14,8 @@ pub const OUTLINE: &str = "outline";
 pub const SCRIPTS: &str = "scripts";
 /// Theorems: what may be blacked out, and pairs of scripts on which that is tried.
 pub const BLACKOUT: &str = "blackout";
+/// Theorems: what may be blacked out does not change the reading, and the same pairs, read.
+pub const ALIKE: &str = "alike";
 
 /// Where a Rattle crate of this repository keeps a file.
 pub fn path(folder: &str, file: &str) -> PathBuf {

@@ -11,11 +11,11 @@ use lib.ListN.{take}
 use lib.Ieee.Fits.{and-l, and-r}
 use Rattle.token.specs.Keyword.{keywordOf}
 use Rattle.spans.specs.Span.{isAlpha, isDigit, isInner, run}
-use Rattle.lexer.specs.declared.Sign.the-variants.{Newline, Blank, Hash, Quote, Single, Pair, Illegal}
-use Rattle.lexer.specs.declared.Item.{Item}
-use Rattle.lexer.specs.declared.Item.the-variants.{Comment, Name, Mark, Wrong}
-use Rattle.lexer.specs.Items.{Class, letter, digit, sign, signOf, pickClass, classOf, pickItem, textItem, lone, pairAt, itemAs, itemOf, sizeOf, less, items}
-use Rattle.blackout.specs.Blackout.{Place, comment, name, other, pickPlace, placeOf, next, may, mayBegin, alikeFrom}
+use Rattle.items.specs.declared.Sign.the-variants.{Newline, Blank, Hash, Quote, Single, Pair, Illegal}
+use Rattle.items.specs.declared.Item.{Item}
+use Rattle.items.specs.declared.Item.the-variants.{Comment, Name, Mark, Wrong}
+use Rattle.items.specs.Items.{Class, letter, digit, sign, signOf, pickClass, classOf, pickItem, textItem, lone, pairAt, itemAs, itemOf, sizeOf, less, items}
+use Rattle.blackout.specs.Blackout.{Place, comment, name, other, pickPlace, placeOf, next, may, mayBegin, alikeFrom, alike}
 use Rattle.blackout.proofs.Near.{is-true, isLetter, steady-is, steady-name, steady-inner, near-same, begins, near}
 use Rattle.blackout.proofs.Runs.{run-open, run-kept, take-kept, number-same}
 use Rattle.blackout.proofs.Strings.{text-same}
@@ -87,3 +87,8 @@ items-same p (b ∷ s) (c ∷ r) zero h =
     ap (λ (l : List Item). itemOf b s ∷ l) (items-same (placeOf (itemOf b s)) s r (less (sizeOf (itemOf b s))) g)
     ∙ ap (λ (x : Item). x ∷ items r (less (sizeOf x))) (item-same b c s r f g)
 items-same p (b ∷ s) (c ∷ r) (suc k) h = items-same (next p b) s r k (and-r (may p b c) _ h)
+
+-- the same items: all that the bytes give
+pub items-alike : (s r : List ℕ) → T (alike s r) → items s 0 ≡ items r 0
+unfolding alike
+items-alike s r h = items-same other s r 0 h

@@ -3,7 +3,6 @@ pub mod Runs
 pub mod Strings
 pub mod Items
 pub mod Premise
-pub mod Same
 pub mod Trials
 pub mod Pairs
 pub mod Random

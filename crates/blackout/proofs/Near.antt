@@ -14,10 +14,10 @@ use Rattle.spans.specs.Span.{isAlpha, isDigit, isInner, run}
 use Rattle.strings.specs.declared.Ended.{Ended}
 use Rattle.strings.specs.declared.Ended.the-variants.{Closed, Broken}
 use Rattle.strings.specs.Strings.{readOf, begun}
-use Rattle.lexer.specs.declared.Sign.the-variants.{Newline, Blank, Hash, Quote, Single, Pair, Illegal}
-use Rattle.lexer.specs.declared.Item.{Item}
-use Rattle.lexer.specs.declared.Item.the-variants.{Mark, Wrong}
-use Rattle.lexer.specs.Items.{Class, letter, digit, sign, signOf, pickClass, classOf, pickItem, textItem, lone, pairAt, itemAs, itemOf, sizeOf, less}
+use Rattle.items.specs.declared.Sign.the-variants.{Newline, Blank, Hash, Quote, Single, Pair, Illegal}
+use Rattle.items.specs.declared.Item.{Item}
+use Rattle.items.specs.declared.Item.the-variants.{Mark, Wrong}
+use Rattle.items.specs.Items.{Class, letter, digit, sign, signOf, pickClass, classOf, pickItem, textItem, lone, pairAt, itemAs, itemOf, sizeOf, less}
 use Rattle.blackout.specs.Blackout.{Place, name, other, pickPlace, placeOf, mayBegin, alikeFrom}
 
 -- ---- tests

@@ -1,25 +1,15 @@
 -- Made by `cargo run --release -p vectors -- all`
--- Pairs of scripts: whether the premise holds of them, as the one in Rust says, and whether they are read alike, as the original says.
-use Prim.Native.Nat.{ℕ}
+-- Pairs of scripts: whether the premise holds of them, as the one in Rust says; and whether they are read alike, of which `alike` has the theorem.
 use mathlib.Core.Path.{_≡_, refl}
+use mathlib.Core.Bool.{true, false}
 use mathlib.Core.List.{List, [], _∷_}
-use lib.Ieee.{div, ofInt, toBits}
 use Rattle.token.specs.Keyword.{keywordOf}
 use Rattle.text.specs.Text.{isText}
-use Rattle.records.specs.Table.{put, field, linked, zeroed}
-use Rattle.lexer.specs.Items.{signOf}
-use Rattle.lexer.specs.Lex.{lexed, lexedOf}
-use Rattle.parser.specs.Tokens.{kindAt, lineAt, after, skipFrom, skipLines, seenIf, checkAt, matchesAt}
-use Rattle.parser.specs.Tables.{pushNode, pushError, consumeAt, requireAt}
-use Rattle.parser.specs.Programs.{run, raised}
-use Rattle.parser.specs.Grammar.{firstOf, blockFrom, block, expressionStmt, parametersFrom, parameters, functionBody, fnStmt, fnExpr, methodsFrom, class, letStmt, namesFrom, enhancedFor, classicFor, forLoop, tryCatch, elifsFrom, elseFrom, ifStmt, ret, brk, cont, whileStmt, statement, declaration, argumentsFrom, arguments, list, dictElementsFrom, dictionary, closed, access, superExpr, primary, finishCall, callFrom, call, unary, lookMany, binaryFrom, binary, assignment, body, lower}
-use Rattle.parser.specs.Whole.{topLevel, statements, parsed}
-use mathlib.Core.Bool.{true, false}
-use Rattle.reader.specs.Reading.{reading}
+use Rattle.items.specs.Items.{signOf}
 use Rattle.blackout.specs.Blackout.{alike, blackout}
-use Rattle.blackout.proofs.Trials.{Pair, pair, map, answer, expected}
+use Rattle.blackout.proofs.Trials.{Pair, pair, unread, premises, verdicts}
 
-abbrev pairs : List Pair
+abbrev pub pairs : List Pair
 pairs =
     pair "" "" true true ∷  -- nothing
     pair "# abc\nx" "# d#\"\ny" true true ∷  -- a comment with other bytes
@@ -71,6 +61,6 @@ pairs =
     pair "\"\\n\"" "\"\\t\"" false true ∷  -- another escape
     []
 
-agree : map answer pairs ≡ map expected pairs
-unfolding reading lexedOf lexed isText keywordOf signOf div ofInt toBits put field linked zeroed kindAt lineAt after skipFrom skipLines seenIf checkAt matchesAt pushNode pushError consumeAt requireAt run raised firstOf blockFrom block expressionStmt parametersFrom parameters functionBody fnStmt fnExpr methodsFrom class letStmt namesFrom enhancedFor classicFor forLoop tryCatch elifsFrom elseFrom ifStmt ret brk cont whileStmt statement declaration argumentsFrom arguments list dictElementsFrom dictionary closed access superExpr primary finishCall callFrom call unary lookMany binaryFrom binary assignment body lower topLevel statements parsed blackout alike
+agree : premises (unread pairs) ≡ verdicts (unread pairs)
+unfolding blackout alike isText keywordOf signOf
 agree = refl

@@ -5,7 +5,7 @@ use mathlib.Core.Bool.{true, false}
 use mathlib.Core.List.{List, [], _∷_}
 use Rattle.token.specs.Keyword.{keywordOf}
 use Rattle.text.specs.Text.{isText}
-use Rattle.lexer.specs.Items.{signOf}
+use Rattle.items.specs.Items.{signOf}
 use Rattle.blackout.specs.Blackout.{alike, blackout}
 use Rattle.blackout.proofs.Trials.{Both, both, premises, verdicts}
 

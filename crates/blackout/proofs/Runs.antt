@@ -10,7 +10,7 @@ use lib.ListN.{length, take, drop}
 use lib.Ieee.Fits.{and-l, and-r}
 use Rattle.spans.specs.Span.{isDigit, count, run}
 use Rattle.numbers.specs.Number.{pointSize, numberSize}
-use Rattle.lexer.specs.Items.{digit, itemAs, itemOf, sizeOf, less}
+use Rattle.items.specs.Items.{digit, itemAs, itemOf, sizeOf, less}
 use Rattle.blackout.specs.Blackout.{Place, other, placeOf, next, may, mayBegin, alikeFrom}
 use Rattle.blackout.proofs.Near.{is-true, Steady, steady-digit, steady-is, near-same, near}
 

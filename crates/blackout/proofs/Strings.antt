@@ -13,7 +13,7 @@ use Rattle.strings.specs.declared.Ended.the-variants.{Closed, Broken}
 use Rattle.strings.specs.declared.Step.{Step}
 use Rattle.strings.specs.declared.Step.the-variants.{On, Stop}
 use Rattle.strings.specs.Strings.{isEscape, pickStep, stepOf, andThen, readOf, begun}
-use Rattle.lexer.specs.Items.{textItem, sizeOf, less}
+use Rattle.items.specs.Items.{textItem, sizeOf, less}
 use Rattle.blackout.specs.Blackout.{Place, string, other, placeOf, next, isFirm, may, alikeFrom}
 use Rattle.blackout.proofs.Near.{is-true}
 

@@ -9,9 +9,9 @@ use Rattle.token.specs.Kind.{Identifier}
 use Rattle.token.specs.Keyword.{keywordOf}
 use Rattle.text.specs.Text.{isText}
 use Rattle.spans.specs.Span.{isAlpha, isInner}
-use Rattle.lexer.specs.declared.Item.{Item}
-use Rattle.lexer.specs.declared.Item.the-variants.{Space, Comment, Name, Text, Number, Mark, Wrong}
-use Rattle.lexer.specs.Items.{itemOf, sizeOf, less}
+use Rattle.items.specs.declared.Item.{Item}
+use Rattle.items.specs.declared.Item.the-variants.{Space, Comment, Name, Text, Number, Mark, Wrong}
+use Rattle.items.specs.Items.{itemOf, sizeOf, less}
 
 -- ---- "differs only in comments, in strings that the first closes properly, and in names"
 -- where a byte of the first stands: in a comment, in a name that is no keyword, in a string that closes (true: the byte that a backslash takes), or in anything else

@@ -5,7 +5,7 @@ use mathlib.Core.List.{List, [], _∷_, _++_}
 use Prim.Native.Nat.{ℕ, _≤_, _<_}
 use native.Mathlib.Omega.{arith}
 use borrow.Author.Tests.{lt-ltb, le-ltb}
-use lib.ListN.{length, take, drop, replicate}
+use lib.ListN.{length, replicate}
 use lib.Seq.{length-take-le}
 use Rattle.io.specs.Counts.{Counts}
 use Rattle.records.specs.Table.{tokenWidth, errorWidth, nodeWidth}
@@ -14,16 +14,10 @@ use Rattle.reader.specs.Reading.{Reading, reading, Answers}
 use Rattle.form.specs.Text.{Holds, headOf, linesOf, readOf, textOf, outlineOf}
 use Rattle.form.proofs.Laws.{holds-within}
 
-fields-same : {A : Type 0} (f : ℕ → ℕ → ℕ → ℕ → ℕ → List ℕ → List ℕ → List ℕ → A) (a b c d e a′ b′ c′ d′ e′ : ℕ) (t u v t′ u′ v′ : List ℕ)
-    → a ≡ a′ → b ≡ b′ → c ≡ c′ → d ≡ d′ → e ≡ e′ → t ≡ t′ → u ≡ u′ → v ≡ v′ → f a b c d e t u v ≡ f a′ b′ c′ d′ e′ t′ u′ v′
-fields-same f a b c d e a′ b′ c′ d′ e′ t u v t′ u′ v′ p q r s o x y z = cc
-
 -- what a promise allows is the reading itself
 read-is : (d : Reading) (r : Answer) (T E N : List ℕ) → Answers d r T E N → readOf r T E N ≡ d
-read-is d r T E N h =
-    fields-same (λ o t e n f T E N. record { outcome = o; tokenCount = t; errorCount = e; nodeCount = n; first = f; tokens = T; errors = E; nodes = N })
-    (r .outcome) (r .tokens) (r .errors) (r .nodes) (r .first) (d .outcome) (d .tokenCount) (d .errorCount) (d .nodeCount) (d .first) T E N (d .tokens) (d .errors) (d .nodes)
-    (h .outcome-is) (h .tokens-are) (h .errors-are) (h .nodes-are) (h .first-is) (h .token-table) (h .error-table) (h .node-table)
+read-is d r T E N h = λ i.
+    record { outcome = h .outcome-is i; tokenCount = h .tokens-are i; errorCount = h .errors-are i; nodeCount = h .nodes-are i; first = h .first-is i; tokens = h .token-table i; errors = h .error-table i; nodes = h .node-table i }
 
 -- the parts of a reading's text, as they are written one behind the other
 pub text-is : (r : Answer) (T E N B u : List ℕ) (at : ℕ)
@@ -57,7 +51,3 @@ outline-read s B u at r T E N l a h =
 -- what is held counts bytes of the buffer
 pub holds-counts : (t B u : List ℕ) (at : ℕ) → Holds t B u at → Counts at u
 holds-counts t B u at h = (holds-within t B u at h, sym (length-take-le at u (holds-within t B u at h)))
-
--- a promise allows one answer only: the count and every byte of the buffer
-pub one-text : (t B u u′ : List ℕ) (at at′ : ℕ) → Holds t B u at → Holds t B u′ at′ → (at ≡ at′) × (u ≡ u′)
-one-text t B u u′ at at′ x y = let e : at ≡ at′ = cc in (e, x .bytes ∙ ap (λ (k : ℕ). take k t ++ drop k B) e ∙ sym (y .bytes))

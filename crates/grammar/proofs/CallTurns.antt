@@ -13,7 +13,7 @@ use Rattle.parser.specs.Programs.{Which, Reader, Prog, give, _>>=_, node, requi
 use Rattle.parser.specs.Grammar.{property, finishCall, access, callFrom}
 use Rattle.pieces.specs.Pieces.{get}
 use Rattle.pieces.proofs.NextKind.{Next, Row, pick, pick-none, by-kind}
-use Rattle.grammar.proofs.Then.{then-then, then-same}
+use Rattle.pieces.proofs.Then.{then-then, then-same}
 
 module _ (T : List ℕ) (low : Which → Reader) (f : ℕ) (e : Found) (p : State) (E N : List ℕ) (kind j : ℕ) (n : Next T (p .current) kind j) where
   -- the tests of a turn

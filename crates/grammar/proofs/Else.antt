@@ -20,7 +20,7 @@ use Rattle.parser.specs.Grammar.{blockFrom, elseFrom, firstOf}
 use Rattle.parser.proofs.Look.{skip-end, check-found}
 use Rattle.progress.proofs.Leaf.{check-at}
 use Rattle.pieces.proofs.NextKind.{matches-passed}
-use Rattle.grammar.proofs.Then.{then-then, then-same}
+use Rattle.pieces.proofs.Then.{then-then, then-same}
 
 -- the brace that `check` stays on is found by the next `matches` at once
 again-there : (T : List ℕ) (at i : ℕ) → checkAt T at RightCurlyBrace ≡ At i → matchesAt T i RightCurlyBrace ≡ At (after T i)

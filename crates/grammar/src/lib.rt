@@ -6,7 +6,9 @@ ghost use Rattle.parser.specs.Programs.{Declaration, Assignment};
 ghost use Rattle.parser.specs.Grammar as specs;
 ghost use Rattle.parser.specs.Grammar.{fuel, fnStmt, fnExpr, methodsFrom, letStmt, forLoop, enhancedFor, tryCatch, ifStmt, elifsFrom, whileStmt, dictElementsFrom, openSlice, levels, lower};
 ghost use Rattle.pieces.specs.Pieces as pieces;
-ghost use Rattle.pieces.specs.Pieces.{runAt, endClass, binaryAt};
+ghost use Rattle.pieces.specs.Pieces.{runAt, endClass};
+ghost use Rattle.operators.specs.Operators.{binaryAt};
+use operators::Turn;
 use parser::Found;
 use parser::Got;
 use parser::Out;
@@ -1109,23 +1111,20 @@ fn binary(
     let mut r: u32 = 7;
     loop {
         let at = s.current;
-        let coming = parser::peek(tokens, at);
-        let kind = coming.kind;
-        let rank = pieces::rank_of(kind);
-        if rank <= looser {
+        let Turn::Takes(rank, j) = operators::turn_at(tokens, at, looser, r) else {
             return pieces::found(s, left);
-        }
-        if r < rank {
-            return pieces::found(s, left);
-        }
-        let j = coming.past;
+        };
         let h = binary(tokens, errors, nodes, s.at_token(j), levels, rank);
         let kh = h.got;
         let Got::Node(right) = kh else {
             return h;
         };
         let q = h.p;
-        let m = parser::make(nodes, q, pieces::operation(rank, left.node, j, right.node));
+        let m = parser::make(
+            nodes,
+            q,
+            operators::operation(rank, left.node, j, right.node),
+        );
         let km = m.got;
         let Got::Node(n) = km else {
             return m;

@@ -13,9 +13,9 @@ use Rattle.lexer.specs.declared.Lexer.{Lexer}
 use Rattle.lexer.specs.declared.Scanned.{Scanned}
 use Rattle.lexer.specs.declared.Next.{Next}
 use Rattle.lexer.specs.declared.Next.the-variants.{On, Stop}
-use Rattle.lexer.specs.declared.Item.{Item}
-use Rattle.lexer.specs.declared.Item.the-variants.{Space, Comment, Name, Text, Number, Mark, Wrong}
-use Rattle.lexer.specs.Items.{sizeOf, linesOf}
+use Rattle.items.specs.declared.Item.{Item}
+use Rattle.items.specs.declared.Item.the-variants.{Space, Comment, Name, Text, Number, Mark, Wrong}
+use Rattle.items.specs.Items.{sizeOf, linesOf}
 use Rattle.lexer.specs.Lex.{noValue}
 use Rattle.lexer.specs.Steps.{pickNext, Did, pickDid, onIn, emitNext, emitTable, emitIn, stepIn, closeIn, ended, Done, thenIn, eofIn, finishIn, numberWords, numberIn, Does, Ends}
 

@@ -21,9 +21,9 @@ use Rattle.lexer.specs.declared.Lexer.{Lexer}
 use Rattle.lexer.specs.declared.Scanned.{Scanned}
 use Rattle.lexer.specs.declared.Next.{Next}
 use Rattle.lexer.specs.declared.Next.the-variants.{On, Stop}
-use Rattle.lexer.specs.declared.Item.{Item}
-use Rattle.lexer.specs.declared.Item.the-variants.{Space, Comment, Name, Text, Number, Mark, Wrong}
-use Rattle.lexer.specs.Items.{items}
+use Rattle.items.specs.declared.Item.{Item}
+use Rattle.items.specs.declared.Item.the-variants.{Space, Comment, Name, Text, Number, Mark, Wrong}
+use Rattle.items.specs.Items.{items}
 use Rattle.lexer.specs.Lex.{State, Result, Onward, go, stop, pickOnward, kept, andThen, noValue, token, error, step, closing, finish, emit, lexed, refusal, pickResult, lexedOf, Lexing}
 use Rattle.lexer.specs.Steps.{pickNext, Did, pickDid, onIn, emitNext, emitTable, emitIn, errorNext, errorTable, tokenMore, tokenOf, errorMore, errorOf, stringWords, numberWords, stepIn, closeIn, ended, Done, thenIn, eofIn, finishIn, scanIn, start, Ends}
 

@@ -8,8 +8,8 @@ use lib.Seq.{drop-cons, drop-drop, drop-nil}
 use Rattle.lexer.specs.declared.Lexer.{Lexer}
 use Rattle.lexer.specs.declared.Next.{Next}
 use Rattle.lexer.specs.declared.Next.the-variants.{On, Stop}
-use Rattle.lexer.specs.declared.Item.{Item}
-use Rattle.lexer.specs.Items.{sizeOf, itemAt, less, items}
+use Rattle.items.specs.declared.Item.{Item}
+use Rattle.items.specs.Items.{sizeOf, itemAt, less, items}
 use Rattle.lexer.specs.Steps.{stepIn, ended, Done, thenIn, finishIn, scanIn, Does}
 
 skip : (l : List ℕ) (k : ℕ) → items l k ≡ items (drop k l) 0

@@ -15,9 +15,9 @@ use Rattle.records.specs.Table.{room, tokenWidth, errorWidth}
 use Rattle.records.specs.Words.{tokenWords, errorWords}
 use Rattle.records.specs.Outcomes.{ended, numberAtEnd, notText, tooLong, noTokenRoom, noErrorRoom}
 use Rattle.lexer.specs.declared.Scanned.{Scanned}
-use Rattle.lexer.specs.declared.Item.{Item}
-use Rattle.lexer.specs.declared.Item.the-variants.{Space, Comment, Name, Text, Number, Mark, Wrong}
-use Rattle.lexer.specs.Items.{items}
+use Rattle.items.specs.declared.Item.{Item}
+use Rattle.items.specs.declared.Item.the-variants.{Space, Comment, Name, Text, Number, Mark, Wrong}
+use Rattle.items.specs.Items.{items}
 
 -- where the lexing stands: the next byte, the line, how many tokens, the last one's kind and all their words, how many errors and all their words
 pub record State : Type 0 where

@@ -20,20 +20,10 @@ use Rattle.lexer.specs.declared.Lexer.{Lexer}
 use Rattle.lexer.specs.declared.Scanned.{Scanned}
 use Rattle.lexer.specs.declared.Next.{Next}
 use Rattle.lexer.specs.declared.Next.the-variants.{On, Stop}
-use Rattle.lexer.specs.declared.Item.{Item}
-use Rattle.lexer.specs.declared.Item.the-variants.{Space, Comment, Name, Text, Number, Mark, Wrong}
-use Rattle.lexer.specs.Items.{sizeOf, linesOf}
+use Rattle.items.specs.declared.Item.{Item}
+use Rattle.items.specs.declared.Item.the-variants.{Space, Comment, Name, Text, Number, Mark, Wrong}
+use Rattle.items.specs.Items.{sizeOf, linesOf, decodedOf}
 use Rattle.lexer.specs.Lex.{noValue}
-
--- the decoded length of a string
-abbrev pub decodedOf : Item → ℕ
-decodedOf Space = 0
-decodedOf (Comment n) = 0
-decodedOf (Name k n) = 0
-decodedOf (Text n m l) = l
-decodedOf (Number x) = 0
-decodedOf (Mark k n m) = 0
-decodedOf (Wrong e n m) = 0
 
 -- an item that lies within a source of at most 65,535 bytes: its words fit
 abbrev pub Inside : Lexer → Item → Type 0

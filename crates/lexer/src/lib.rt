@@ -1,64 +1,22 @@
-// The lexer of lexer.rs: bytes to token and error records.
+// The lexer of lexer.rs: items to token and error records.
 ghost use mathlib.Core.Path.{_≡_};
-ghost use Prim.Native.Nat.{_+_, _<_, _≤_};
-ghost use lib.ListN.{length, drop};
+ghost use Prim.Native.Nat.{_+_, _≤_};
+ghost use lib.ListN.{length};
 ghost use Rattle.records.specs.Table.{room, tokenWidth, errorWidth};
-ghost use Rattle.lexer.specs.Items.{signOf, nameAt, textItem, pairAt, itemAt, items};
-ghost use Rattle.strings.specs.Strings.{readOf, begun};
+ghost use Rattle.items.specs.Items.{items};
 ghost use mathlib.Core.List.{[]};
 ghost use Rattle.token.specs.Kind.{String};
 ghost use Rattle.lexer.specs.Lex.{noValue, lexedOf, Lexing};
 ghost use Rattle.lexer.specs.Steps.{Inside, advanced, emitNext, emitTable, errorNext, errorTable, stringWords, numberIn, stepIn, closeIn, finishIn, scanIn, eofIn, start, ended, Does, Ends};
+use items::Item;
 use literal::Literal;
 use literal::Span;
 use literal::Words;
 use numbers::Numeral;
 use records::InterpreterError;
-use records::Message;
 use records::Outcome;
 use records::TokenData;
-use strings::Ended;
 use token::Token;
-
-// What a byte is that is no letter and no digit.
-pub enum Sign {
-    Newline,
-    // Space, tab, carriage return: they emit nothing.
-    Blank,
-    Hash,
-    Quote,
-    // A mark of one byte: its kind.
-    Single(u32),
-    // A mark that may have `=` after it: its kind alone (EOF's for `!`, which is none), and with it.
-    Pair(u32, u32),
-    Illegal,
-}
-
-// What stands at a place of the source: all that its bytes give, without the place, the line or a byte.
-pub enum Item {
-    Space,
-    Comment(usize),
-    Name {
-        kind: u32,
-        size: usize,
-    },
-    Text {
-        size: usize,
-        lines: usize,
-        length: usize,
-    },
-    Number(Numeral),
-    Mark {
-        kind: u32,
-        size: usize,
-        lines: usize,
-    },
-    Wrong {
-        message: u32,
-        size: usize,
-        lines: usize,
-    },
-}
 
 // The state by value: the next byte, the line, how many tokens and errors stand in their tables, and the kind of the last token.
 pub struct Lexer {
@@ -133,7 +91,7 @@ fn scan_tokens(source: &[u8], tokens: &mut [u32], errors: &mut [u32]) -> Scanned
     };
     let mut at = 0;
     while at < source.len() {
-        let x = item_at(source, at);
+        let x = items::item_at(source, at);
         match scan_token(tokens, errors, l, x) {
             Next::On(m) => {
                 l = m;
@@ -313,160 +271,4 @@ fn set_error(errors: &mut [u32], l: Lexer, message: u32, size: usize, lines: usi
         errors: n + 1,
         last: l.last,
     })
-}
-
-// What stands at i. Letters come first: no sign is one, and names are the commonest.
-fn item_at(s: &[u8], i: usize) -> Item
-    requires { ⌜ i < length (now s) ⌝ }
-    ensures { λ r. ⌜ r ≡ itemAt (drop i (now (s .entry))) ⌝ }
-{
-    let c = s[i];
-    if c == b' ' {
-        return Item::Space;
-    }
-    if c == b'\n' {
-        return Item::Mark {
-            kind: Token::NEWLINE,
-            size: 1,
-            lines: 1,
-        };
-    }
-    item_of(s, i)
-}
-
-// By the class of its first byte.
-fn item_of(s: &[u8], i: usize) -> Item
-    requires { ⌜ i < length (now s) ⌝ }
-    ensures { λ r. ⌜ r ≡ itemAt (drop i (now (s .entry))) ⌝ }
-{
-    let c = s[i];
-    if spans::is_alpha(c) {
-        return identifier(s, i);
-    }
-    if spans::is_digit(c) {
-        return Item::Number(numbers::number(s, i));
-    }
-    match sign_of(c) {
-        Sign::Newline => Item::Mark {
-            kind: Token::NEWLINE,
-            size: 1,
-            lines: 1,
-        },
-        Sign::Blank => Item::Space,
-        Sign::Hash => Item::Comment(spans::comment_end(s, i + 1) - i),
-        Sign::Quote => string(s, i),
-        Sign::Single(kind) => mark(kind),
-        Sign::Pair(alone, with) => pair(s, i, alone, with),
-        Sign::Illegal => Item::Wrong {
-            message: Message::ILLEGAL_CHARACTER,
-            size: 1,
-            lines: 0,
-        },
-    }
-}
-
-// The name that starts at i.
-fn identifier(s: &[u8], i: usize) -> Item
-    requires { ⌜ i < length (now s) ⌝ }
-    ensures { λ r. ⌜ r ≡ nameAt (drop i (now (s .entry))) ⌝ }
-{
-    let end = spans::name_end(s, i + 1);
-    Item::Name {
-        kind: Token::keyword(s, i, end).kind,
-        size: end - i,
-    }
-}
-
-// The string whose opening quote stands at i.
-fn string(s: &[u8], i: usize) -> Item
-    requires { ⌜ i < length (now s) ⌝ }
-    ensures { λ r. ⌜ r ≡ textItem (readOf (drop (i + 1) (now (s .entry))) begun) ⌝ }
-{
-    match strings::string(s, i + 1) {
-        Ended::Closed {
-            size,
-            lines,
-            length,
-        } => Item::Text {
-            size: size + 1,
-            lines,
-            length,
-        },
-        Ended::Broken { size, lines } => Item::Wrong {
-            message: Message::UNCLOSED_STRING,
-            size: size + 1,
-            lines,
-        },
-    }
-}
-
-// What the byte c is, if it is no letter and no digit.
-pub fn sign_of(c: u8) -> Sign
-    ensures { λ r. ⌜ r ≡ signOf c ⌝ }
-{
-    match c {
-        b'\n' => Sign::Newline,
-        b' ' => Sign::Blank,
-        b'\t' => Sign::Blank,
-        b'\r' => Sign::Blank,
-        b'#' => Sign::Hash,
-        b'"' => Sign::Quote,
-        b'!' => Sign::Pair(Token::EOF, Token::BANG_EQUAL),
-        b'=' => Sign::Pair(Token::EQUAL, Token::EQUAL_EQUAL),
-        b'>' => Sign::Pair(Token::GREATER, Token::GREATER_EQUAL),
-        b'<' => Sign::Pair(Token::LESS, Token::LESS_EQUAL),
-        b'(' => Sign::Single(Token::LEFT_PAREN),
-        b')' => Sign::Single(Token::RIGHT_PAREN),
-        b'[' => Sign::Single(Token::LEFT_BRACE),
-        b']' => Sign::Single(Token::RIGHT_BRACE),
-        b'}' => Sign::Single(Token::RIGHT_CURLY_BRACE),
-        b'{' => Sign::Single(Token::LEFT_CURLY_BRACE),
-        b',' => Sign::Single(Token::COMMA),
-        b'.' => Sign::Single(Token::DOT),
-        b'-' => Sign::Single(Token::MINUS),
-        b'+' => Sign::Single(Token::PLUS),
-        b'/' => Sign::Single(Token::SLASH),
-        b'%' => Sign::Single(Token::MOD),
-        b'*' => Sign::Single(Token::STAR),
-        b'^' => Sign::Single(Token::POWER),
-        b':' => Sign::Single(Token::COLON),
-        b';' => Sign::Single(Token::SEMICOLON),
-        _ => Sign::Illegal,
-    }
-}
-
-// A mark of one byte.
-fn mark(kind: u32) -> Item
-    ensures { λ r. ⌜ r ≡ Item.Mark kind 1 0 ⌝ }
-{
-    Item::Mark {
-        kind,
-        size: 1,
-        lines: 0,
-    }
-}
-
-// A mark that may have `=` after it, at i. A lone `!` is a message.
-fn pair(s: &[u8], i: usize, alone: u32, with: u32) -> Item
-    requires { ⌜ i < length (now s) ⌝ }
-    ensures { λ r. ⌜ r ≡ pairAt alone with (drop (i + 1) (now (s .entry))) ⌝ }
-{
-    let j = i + 1;
-    if j < s.len() {
-        if s[j] == b'=' {
-            return Item::Mark {
-                kind: with,
-                size: 2,
-                lines: 0,
-            };
-        }
-    }
-    if alone == Token::EOF {
-        return Item::Wrong {
-            message: Message::LONE_BANG,
-            size: 1,
-            lines: 0,
-        };
-    }
-    mark(alone)
 }

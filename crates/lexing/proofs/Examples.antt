@@ -5,7 +5,7 @@ use Prim.Native.Nat.{ℕ}
 use lib.Ieee.{div, ofInt, toBits}
 use Rattle.token.specs.Keyword.{keywordOf}
 use Rattle.text.specs.Text.{isText}
-use Rattle.lexer.specs.Items.{signOf}
+use Rattle.items.specs.Items.{signOf}
 use Rattle.lexer.specs.Lex.{Result, lexed, lexedOf}
 
 -- outcome, counts, then the words

@@ -21,14 +21,14 @@ use Rattle.records.specs.Rows.{Rows, none, more}
 use Rattle.strings.specs.declared.Ended.{Ended}
 use Rattle.strings.specs.declared.Ended.the-variants.{Closed, Broken}
 use Rattle.strings.specs.Strings.{readOf, begun}
-use Rattle.lexer.specs.declared.Sign.{Sign}
-use Rattle.lexer.specs.declared.Sign.the-variants.{Newline, Blank, Hash, Quote, Single, Pair, Illegal}
-use Rattle.lexer.specs.declared.Item.{Item}
-use Rattle.lexer.specs.declared.Item.the-variants.{Space, Comment, Name, Text, Number, Mark, Wrong}
-use Rattle.lexer.specs.Items.{Row, find, pickSign, signs, signOf, letter, digit, sign, pickClass, pickItem, textItem, lone, pairAt, itemAs, itemOf, sizeOf, linesOf, less, items}
+use Rattle.items.specs.declared.Sign.{Sign}
+use Rattle.items.specs.declared.Sign.the-variants.{Newline, Blank, Hash, Quote, Single, Pair, Illegal}
+use Rattle.items.specs.declared.Item.{Item}
+use Rattle.items.specs.declared.Item.the-variants.{Space, Comment, Name, Text, Number, Mark, Wrong}
+use Rattle.items.specs.Items.{Row, find, pickSign, signs, signOf, letter, digit, sign, pickClass, pickItem, textItem, lone, pairAt, itemAs, itemOf, sizeOf, linesOf, less, items}
 use Rattle.lexer.specs.Lex.{State, Result, Onward, go, stop, pickOnward, kept, andThen, passed, noValue, spanOf, token, error, step, closing, finish, emit, fresh, lexed}
 use Rattle.lexing.specs.Kept.{Good, Placed, InOrder, first, behind, whole, short, Keeps}
-use Rattle.lexer.proofs.Bounds.{item-bounded}
+use Rattle.items.proofs.Bounds.{item-bounded}
 
 -- ---- the kinds and messages of items
 abbrev Kinded : Item → Type 0

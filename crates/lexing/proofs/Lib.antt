@@ -1,3 +1,4 @@
 pub mod Kept
 pub mod Answer
 pub mod Examples
+pub mod Strings

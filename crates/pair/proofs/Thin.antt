@@ -40,16 +40,16 @@ use denote.Triple.Call.{calls-at}
 use denote.Triple.Clauses.{Clauses, closing, ensured, lasts}
 use denote.Triple.Walked.{says, Stays, stay-ref, stay-none-slice, gave-slice, walkOf, goes-ref, goes-none-slice, goes-gave-slice, AllGo, Walks, ends-at, walked, walk-meets}
 use denote.Exit.{yes}
-use Rattle.pair.specs.declared.Parser.{Parser}
-use Rattle.pair.proofs.Parser as P
-use Rattle.pair.proofs.Parser.Laws as P′
+use Rattle.host.specs.declared.Parser.{Parser}
+use Rattle.host.proofs.Parser as P
+use Rattle.host.proofs.Parser.Laws as P′
 use Rattle.reader.specs.declared.Answer.{Answer}
 use Rattle.reader.proofs.Answer as N
 use Rattle.reader.proofs.Answer.Laws as N′
-use Rattle.pair.specs.declared.Stepped.{Stepped}
-use Rattle.pair.proofs.Stepped as S
-use Rattle.pair.proofs.Stepped.Laws as S′
-use Rattle.pair.proofs.step as core
+use Rattle.steps.specs.declared.Stepped.{Stepped}
+use Rattle.steps.proofs.Stepped as S
+use Rattle.steps.proofs.Stepped.Laws as S′
+use Rattle.steps.proofs.step as core
 use Rattle.pair.proofs.kettleplume_next as f
 
 -- the two statements that lend a slice on, from the local i, by the locals j and l

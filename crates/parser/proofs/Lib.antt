@@ -1,4 +1,3 @@
 pub mod Look
 pub mod Push
 pub mod Write
-pub mod One

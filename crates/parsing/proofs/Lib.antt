@@ -3,3 +3,4 @@ pub mod Sizes
 pub mod Same
 pub mod Ahead
 pub mod Calls
+pub mod One

@@ -1,2 +1,3 @@
+pub mod Then
 pub mod NextKind
 pub mod Turns

@@ -1,9 +1,8 @@
 -- Programs of the code's own functions, where the Rust has none of that name: parts of the readers.
-use Prim.Native.Nat.{ℕ, suc}
+use Prim.Native.Nat.{ℕ}
 use mathlib.Core.Bool.{Bool, true, false, _||_}
 use mathlib.Core.List.{List, [], _∷_}
 use lib.Dec.{eqb}
-use lib.ListN.{drop}
 use Rattle.token.specs.Kind.{RightParen, RightBrace, LeftCurlyBrace, RightCurlyBrace, Semicolon, Less, Else, Identifier, Number, String, False, True, Nil}
 use Rattle.records.specs.Messages.{expectedVariableName, expectedRightCurly, expectParenAfterExpression, expectedSemicolon, onlyInsideLoop, expectedEndOfList, expectedEndOfDict, expectedPropertyName, expectParenAfterArguments}
 use Rattle.parser.specs.declared.Found.{Found}
@@ -11,7 +10,7 @@ use Rattle.parser.specs.declared.Form.the-variants.{Empty}
 use Rattle.parser.specs.Tables.{plain}
 use Rattle.parser.specs.Nodes.{row, varRow, listRow, dictionaryRow, callRow, groupingRow, getRow, emptyRow, classRow, classicForRow}
 use Rattle.parser.specs.Programs.{Reader, Which, Declaration, Prog, give, stop, _>>=_, _>>_, look, node, fail, failAt, consume, require, leaveLoop, insideLoop, down, run}
-use Rattle.parser.specs.Grammar.{nothing, expression, named, property, Level, levels, fuel, parameters, functionBody, elseFrom, binary, lower}
+use Rattle.parser.specs.Grammar.{nothing, expression, named, property, parameters, functionBody, lower}
 
 -- a program with so many levels left
 abbrev pub runAt : List ℕ → ℕ → Prog → Reader
@@ -85,11 +84,6 @@ among (k ∷ ks) kind = eqb kind k || among ks kind
 abbrev pub literals : List ℕ
 literals = Number ∷ String ∷ False ∷ True ∷ Nil ∷ []
 
--- the number of the level, the first of them n, that has an operator of this kind; 0 if none has
-unfoldable pub rankIn : ℕ → List Level → ℕ → ℕ
-rankIn n [] kind = 0
-rankIn n (l ∷ ls) kind = elim (among (l .operators) kind) [ true ↦ n | false ↦ rankIn (suc n) ls kind ]
-
 module _ (T : List ℕ) where
   -- a function from its parameters on
   abbrev pub func : ℕ → ℕ → ℕ → Prog
@@ -108,7 +102,3 @@ module _ (T : List ℕ) where
     stmt ← down Declaration
     leaveLoop
     node (classicForRow keyword init (cond .node) (inc .node) (stmt .node))
-
-  -- the binary operators without those of the loosest so many levels
-  abbrev pub binaryAt : ℕ → Prog
-  binaryAt looser = binary T (drop looser levels)

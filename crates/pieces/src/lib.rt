@@ -1,15 +1,14 @@
-// The parts of the readers that call no reader: rows, endings, lists of names, operators. The readers that call each other stand above, in `grammar`.
+// The parts of the readers that call no reader: rows, endings, lists of names. Operators stand above, in `operators`, and the readers that call each other in `grammar`.
 ghost use mathlib.Core.Path.{_≡_};
 ghost use mathlib.Core.List.{List};
 ghost use Prim.Native.Nat.{ℕ, _-_};
-ghost use lib.Dec.{leb};
 ghost use Rattle.parser.specs.Tables.{reply, andThen, pushNode, pushError};
 ghost use Rattle.parser.specs.Nodes as rows;
 ghost use Rattle.parser.specs.Programs.{Which, Reader, run};
 ghost use Rattle.parser.specs.Grammar as specs;
-ghost use Rattle.parser.specs.Grammar.{lastOf, formThrough, fuel, namesFrom, closed, superExpr, levels, rowIf};
+ghost use Rattle.parser.specs.Grammar.{lastOf, formThrough, fuel, namesFrom, closed, superExpr};
 ghost use Rattle.pieces.specs.Pieces as pieces;
-ghost use Rattle.pieces.specs.Pieces.{endClass, among, literals, rankIn};
+ghost use Rattle.pieces.specs.Pieces.{endClass, among, literals};
 use parser::Form;
 use parser::Found;
 use parser::Got;
@@ -556,40 +555,6 @@ pub fn get(tokens: &[u32], errors: &mut [u32], nodes: &mut [u32], p: State, obje
     };
     let q = h.p;
     gives_form(q, n.node, Form::Property(name.node, object), 0)
-}
-
-// The level of a binary operator, loosest 1 to tightest 7; 0 for any other kind.
-pub fn rank_of(kind: u32) -> u32
-    ensures { λ r. ⌜ r ≡ rankIn 1 levels kind ⌝ }
-{
-    match kind {
-        Token::OR => 1,
-        Token::AND => 2,
-        Token::EQUAL_EQUAL => 3,
-        Token::BANG_EQUAL => 3,
-        Token::GREATER => 4,
-        Token::GREATER_EQUAL => 4,
-        Token::LESS => 4,
-        Token::LESS_EQUAL => 4,
-        Token::PLUS => 5,
-        Token::MINUS => 5,
-        Token::SLASH => 6,
-        Token::MOD => 6,
-        Token::STAR => 6,
-        Token::POWER => 7,
-        _ => 0,
-    }
-}
-
-// `and` and `or` make a Logical, the others a Binary.
-pub fn operation(rank: u32, left: u32, operator: u32, right: u32) -> Node
-    ensures { λ r. ⌜ r ≡ rowIf (leb rank 2) (rows.logicalRow left operator right) (rows.binaryRow left operator right) ⌝ }
-{
-    if rank <= 2 {
-        row(Node::LOGICAL, operator, 0, 0, left, right, 0, 0)
-    } else {
-        row(Node::BINARY, operator, 0, 0, left, right, 0, 0)
-    }
 }
 
 // A name gives an Assign, a property a Set; anything else is message 23 at the `=`.

@@ -2,12 +2,12 @@
 ghost use lib.ListN.{length};
 ghost use Rattle.records.specs.Table.{room, tokenWidth, errorWidth};
 ghost use Rattle.lexer.specs.Lex.{lexedOf, Lexing};
-ghost use Rattle.strings.specs.Strings.{decodeOf, Decoding};
+ghost use Rattle.decoding.specs.Decode.{decodeOf, Decoding};
 ghost use Rattle.reader.specs.Entry.{entered, Enters};
 ghost use Rattle.reader.specs.Reading.{reading, Answers};
+use decoding::Decoded;
 use lexer::Scanned;
 use records::Outcome;
-use strings::Decoded;
 
 // What a reading answers: the outcome, how many tokens, errors and nodes are kept, and the first statement, 0 where none is.
 #[repr(C)]
@@ -88,5 +88,5 @@ pub extern "C" fn kettleplume_scan(source: &[u8], tokens: &mut [u32], errors: &m
 pub extern "C" fn kettleplume_decode(source: &[u8], start: usize, buffer: &mut [u8]) -> Decoded
     ensures { λ r. ⌜ Decoding (decodeOf (now (source .entry)) start (length (now (buffer .entry)))) r (now (buffer .entry)) (now (buffer .exit)) ⌝ }
 {
-    strings::decode(source, start, buffer)
+    decoding::decode(source, start, buffer)
 }

@@ -179,7 +179,7 @@ fn with_room(b: &[u8], start: usize, out: &mut [u8], room: usize) {
 }
 
 fn into(b: &[u8], start: usize, out: &mut [u8]) {
-    let d = strings::decode(b, start, out);
+    let d = decoding::decode(b, start, out);
     print::letter(b'd');
     print::word(d.outcome);
     print::size(d.length);
@@ -225,7 +225,7 @@ fn quote(s: &mut [u8]) {
 
 fn open_string(source: &[u8]) {
     let mut out = [0xaau8; 4];
-    let d = strings::decode(source, 0, &mut out);
+    let d = decoding::decode(source, 0, &mut out);
     print::letter(b'u');
     print::word(d.outcome);
     print::size(d.length);

@@ -148,7 +148,7 @@ fn text(source: &[u8], start: usize, out: &mut [u8], length: usize) {
 }
 
 fn into(source: &[u8], start: usize, out: &mut [u8]) {
-    let d = strings::decode(source, start, out);
+    let d = decoding::decode(source, start, out);
     if (d.outcome == 0) & (d.length == out.len()) {
         print::bytes(out);
     } else {

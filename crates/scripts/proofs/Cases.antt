@@ -6,7 +6,7 @@ use mathlib.Core.List.{List, [], _∷_, _++_}
 use lib.Dec.{eqb}
 use lib.ListN.{replicate, take, drop}
 use Rattle.reader.specs.Reading.{Reading, reading}
-use Rattle.reader.proofs.Codes.{codes}
+use Rattle.text.proofs.Codes.{codes}
 
 -- a script, the rooms for tokens, errors and nodes, and the words that are kept
 pub data Case : Type 0 where

@@ -29,9 +29,10 @@ use Rattle.parsing.proofs.Frame.{Grown, top-frames, grown-consume}
 use Rattle.parsing.proofs.Ahead.{Ahead, ahead, top-ahead}
 use Rattle.trees.proofs.TreeTyping.{Done, Held}
 use Rattle.trees.proofs.Trees.{lower-reads}
-use Rattle.pair.specs.declared.Parser.{Parser}
-use Rattle.pair.specs.Pair.{Called, left, leaving, markedAs, final, pickCall, restOf, noEof, onlyEof, fitsIn, stateOf, behind, stoppedAt, afterOne, oneOf, nextOf, next, nexts}
-use Rattle.pair.proofs.Cases.{next-again, next-goes-on}
+use Rattle.host.specs.declared.Parser.{Parser}
+use Rattle.host.specs.Fits.{noEof, onlyEof, fitsIn}
+use Rattle.steps.specs.Steps.{Called, left, leaving, markedAs, final, pickCall, restOf, stateOf, behind, stoppedAt, afterOne, oneOf, nextOf, next, nexts}
+use Rattle.steps.proofs.Cases.{next-again, next-goes-on}
 use Rattle.turns.proofs.Loops.{Low, top-low}
 
 -- what a call leaves where a token before EOF is left to be read

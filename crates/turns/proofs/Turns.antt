@@ -17,9 +17,10 @@ use Rattle.reader.specs.declared.Answer.{Answer}
 use Rattle.whole.proofs.Outcome.{reading-outcome}
 use Rattle.reader.specs.Entry.{Entered, entered}
 use Rattle.reader.specs.Reading.{Reading, refused, joined, pickReading, reading, Answers}
-use Rattle.pair.specs.declared.Parser.{Parser}
-use Rattle.pair.specs.Pair.{Called, left, held, leaving, markedAs, final, pickCall, restOf, fresh, begun, fitsIn, stateOf, behind, stoppedAt, afterOne, oneOf, nextOf, next, nexts}
-use Rattle.pair.proofs.Cases.{next-again, next-refuses, next-goes-on}
+use Rattle.host.specs.declared.Parser.{Parser}
+use Rattle.host.specs.Fits.{fitsIn}
+use Rattle.steps.specs.Steps.{Called, left, held, leaving, markedAs, final, pickCall, restOf, fresh, begun, stateOf, behind, stoppedAt, afterOne, oneOf, nextOf, next, nexts}
+use Rattle.steps.proofs.Cases.{next-again, next-refuses, next-goes-on}
 
 -- how a call stands to the whole reading R: it gave the final answer, and all is as R has it; or the statements that are left make R, with fuel for a turn
 -- for each token that is left

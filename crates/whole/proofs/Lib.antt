@@ -1,3 +1,4 @@
 pub mod Sizes
 pub mod Rooms
 pub mod Outcome
+pub mod One

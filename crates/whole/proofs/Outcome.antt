@@ -9,9 +9,9 @@ use lib.Dec.{ltb, eqb}
 use lib.ListN.{length}
 use Rattle.text.specs.Text.{isText}
 use Rattle.records.specs.Table.{room, tokenWidth, errorWidth}
-use Rattle.lexer.specs.declared.Item.{Item}
-use Rattle.lexer.specs.declared.Item.the-variants.{Space, Comment, Name, Text, Number, Mark, Wrong}
-use Rattle.lexer.specs.Items.{items}
+use Rattle.items.specs.declared.Item.{Item}
+use Rattle.items.specs.declared.Item.the-variants.{Space, Comment, Name, Text, Number, Mark, Wrong}
+use Rattle.items.specs.Items.{items}
 use Rattle.lexer.specs.Lex.{State, Result, Onward, go, stop, pickOnward, kept, andThen, token, step, closing, emit, fresh, noValue, refusal, pickResult, lexed, lexedOf}
 use Rattle.parser.specs.Whole.{parsed}
 use Rattle.parsing.specs.Ahead.{isOutcome}

@@ -16,9 +16,9 @@ use Rattle.records.proofs.Room.{room-length, lt-or-le}
 use Rattle.records.proofs.Field.{field-room, field-none, field-same}
 use Rattle.records.proofs.Rest.{zeroed-length}
 use Rattle.records.proofs.Rows.{rows-length}
-use Rattle.lexer.specs.declared.Item.{Item}
-use Rattle.lexer.specs.declared.Item.the-variants.{Space, Comment, Name, Text, Number, Mark, Wrong}
-use Rattle.lexer.specs.Items.{items}
+use Rattle.items.specs.declared.Item.{Item}
+use Rattle.items.specs.declared.Item.the-variants.{Space, Comment, Name, Text, Number, Mark, Wrong}
+use Rattle.items.specs.Items.{items}
 use Rattle.lexer.specs.Lex.{State, Result, Onward, go, stop, pickOnward, kept, andThen, token, step, closing, emit, fresh, noValue, refusal, pickResult, lexed, lexedOf}
 use Rattle.lexing.specs.Kept.{Good, Placed, Ending, whole, short}
 use Rattle.lexing.proofs.Kept.{lexed-keeps}

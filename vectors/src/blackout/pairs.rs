@@ -1,13 +1,13 @@
 //! Pairs of scripts, and what the premise and the original say of them, as theorems: the files in
-//! `crates/blackout/proofs` that are made here hold the Rattle premise against the one in Rust, and
-//! the definition of the reading against the original.
+//! `crates/blackout/proofs` that are made here hold the Rattle premise against the one in Rust, the
+//! one in `crates/alike/proofs` the definition of the reading against the original.
 
 use super::change::{any_first, broken, changed, exchanged};
 use super::premise::{permitted, Clause, CLAUSES};
 use super::tables::Tables;
 use crate::definition::{texts, HEAD, UNFOLDING};
 use crate::files::File;
-use crate::folders::BLACKOUT;
+use crate::folders::{ALIKE, BLACKOUT};
 use expected::lexing::is_text;
 use expected::mixed_dice::Dice;
 
@@ -225,42 +225,48 @@ pub const PAIRS: &[Pair] = &[
 /// The number and the seed of the stored random pairs.
 const RANDOM: (usize, u64) = (300, 20_261_116);
 
-/// The pairs with what the original says of them, and random ones with the premise alone.
+/// The pairs with what the premise and the original say of them, and random ones with the premise
+/// alone.
 pub fn files() -> Vec<File> {
     let [pairs, random] = oracle::on_large_stack(|| [stored(), random(RANDOM.0, RANDOM.1)]);
     vec![
         File::theorems(BLACKOUT, "Pairs", &pairs),
         File::theorems(BLACKOUT, "Random", &random),
+        File::theorems(ALIKE, "Pairs", &read()),
     ]
 }
 
-/// The text of the theorem about the pairs above.
+/// The text of the theorem about the pairs above and the premise.
 fn stored() -> String {
-    // What has to be computed is named as in the crate `scripts`, but for that crate's own files; the
-    // reading is named below.
-    let others = ["use Rattle·scripts·", "use Rattle.reader."];
-    let lexing_and_parsing = |line: &&str| !others.iter().any(|other| line.starts_with(other));
-    let uses: Vec<&str> = HEAD.lines().filter(lexing_and_parsing).collect();
     let rows = PAIRS.iter().map(|(what, first, second, _)| {
         let same = Tables::original(first) == Tables::original(second);
         let (p, first, second) = (permitted(first, second), quoted(first), quoted(second));
         format!("    pair {first} {second} {p} {same} ∷  -- {what}\n")
     });
+    premise(
+        "Pairs of scripts: whether the premise holds of them, as the one in Rust says; and whether they are read alike, of which `alike` has the theorem.",
+        "Pair, pair, unread",
+        &format!("abbrev pub pairs : List Pair\npairs =\n{}    []", rows.collect::<String>()),
+        "(unread pairs)",
+    )
+}
+
+/// The text of the theorem about the same pairs and the reading.
+fn read() -> String {
+    // What has to be computed is named as in the crate `scripts`, but for that crate's own files.
+    let named = |line: &&str| !line.starts_with("use Rattle·scripts·");
+    let uses: Vec<&str> = HEAD.lines().filter(named).collect();
     format!(
-            "-- Pairs of scripts: whether the premise holds of them, as the one in Rust says, and whether they are read alike, as the original says.\n\
+        "-- The pairs of `blackout`: whether they are read alike, as the original says.\n\
              {}\n\
-             use mathlib.Core.Bool.{{true, false}}\n\
-             use Rattle.reader.specs.Reading.{{reading}}\n\
-             use Rattle.blackout.specs.Blackout.{{alike, blackout}}\n\
-             use Rattle.blackout.proofs.Trials.{{Pair, pair, map, answer, expected}}\n\n\
-             abbrev pairs : List Pair\npairs =\n{}    []\n\n\
-             agree : map answer pairs ≡ map expected pairs\n\
-             {} blackout alike\n\
+             use Rattle.blackout.proofs.Pairs.{{pairs}}\n\
+             use Rattle.alike.proofs.Trials.{{answers, expected}}\n\n\
+             agree : answers pairs ≡ expected pairs\n\
+             {}\n\
              agree = refl\n",
-            uses.join("\n"),
-            rows.collect::<String>(),
-            UNFOLDING.trim_end(),
-        )
+        uses.join("\n"),
+        UNFOLDING.trim_end(),
+    )
 }
 
 /// The text of a theorem about so many random pairs: the premise in Rust is held against the one in
@@ -272,21 +278,33 @@ pub fn random(count: usize, seed: u64) -> String {
             let (p, first, second) = (permitted(&first, &second), quoted(&first), quoted(&second));
             format!("    both {first} {second} {p} ∷\n")
         });
+    premise(
+        "Random pairs of scripts: the premise holds of them where the one in Rust does.",
+        "Both, both",
+        &format!(
+            "abbrev pairs : List Both\npairs =\n{}    []",
+            rows.collect::<String>()
+        ),
+        "pairs",
+    )
+}
+
+/// The text of a theorem that the premise says of the pairs of a table what their rows do.
+fn premise(title: &str, forms: &str, table: &str, pairs: &str) -> String {
     format!(
-        "-- Random pairs of scripts: the premise holds of them where the one in Rust does.\n\
+        "-- {title}\n\
              use mathlib.Core.Path.{{_≡_, refl}}\n\
              use mathlib.Core.Bool.{{true, false}}\n\
              use mathlib.Core.List.{{List, [], _∷_}}\n\
              use Rattle.token.specs.Keyword.{{keywordOf}}\n\
              use Rattle.text.specs.Text.{{isText}}\n\
-             use Rattle.lexer.specs.Items.{{signOf}}\n\
+             use Rattle.items.specs.Items.{{signOf}}\n\
              use Rattle.blackout.specs.Blackout.{{alike, blackout}}\n\
-             use Rattle.blackout.proofs.Trials.{{Both, both, premises, verdicts}}\n\n\
-             abbrev pairs : List Both\npairs =\n{}    []\n\n\
-             agree : premises pairs ≡ verdicts pairs\n\
+             use Rattle.blackout.proofs.Trials.{{{forms}, premises, verdicts}}\n\n\
+             {table}\n\n\
+             agree : premises {pairs} ≡ verdicts {pairs}\n\
              unfolding blackout alike isText keywordOf signOf\n\
              agree = refl\n",
-        rows.collect::<String>(),
     )
 }
 

@@ -1,7 +1,7 @@
 -- `lexer::scan_token` meets its contract, item by item. Assumes nothing.
 use mathlib.Core.Path.{refl, subst}
 use native.Mathlib.Omega.{arith}
-use Rattle.lexer.specs.declared.Item.the-variants.{Space, Comment, Name, Text, Number, Mark, Wrong}
+use Rattle.items.specs.declared.Item.the-variants.{Space, Comment, Name, Text, Number, Mark, Wrong}
 use Rattle.lexer.specs.Steps.{Inside}
 use Rattle.lexer.proofs.Flow.{does-as, number-errors}
 use borrow.Author.Needs.{needs}

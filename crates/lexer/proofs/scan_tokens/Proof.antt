@@ -5,11 +5,11 @@ use native.Mathlib.Omega.{arith}
 use borrow.Author.Needs.{needs}
 use lib.ListN.{length, drop}
 use Rattle.lexer.specs.declared.Next.the-variants.{On}
-use Rattle.lexer.specs.Items.{items, sizeOf, linesOf}
-use Rattle.lexer.specs.Steps.{decodedOf, scanIn, start}
+use Rattle.items.specs.Items.{items, sizeOf, linesOf, decodedOf}
+use Rattle.lexer.specs.Steps.{scanIn, start}
 use Rattle.lexer.proofs.Flow.{Moved, moved, step-moved, finished, ends-as}
 use Rattle.lexer.proofs.Turn.{again, stops, finishes}
-use Rattle.lexer.proofs.Bounds.{bounded-at}
+use Rattle.items.proofs.Bounds.{bounded-at}
 use Rattle.lexer.proofs.scan_tokens.Statement.{statement}
 use Rattle.lexer.proofs.scan_tokens.Tie as tie
 

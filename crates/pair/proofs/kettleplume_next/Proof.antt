@@ -1,14 +1,14 @@
 -- Made by tools/remake thin pair from tools/ans/pair/thin.txt: the proofs of the thin functions.
--- `pair::kettleplume_next` meets its contract: it is the thin function of `Thin.antt` over `step`, of which the proof knows only that it meets its contract.
+-- `pair::kettleplume_next` meets its contract: it is the thin function of `Thin.antt` over `steps::step`, of which the proof knows only that it meets its contract.
 -- Assumes nothing.
 use contract.Running.{givenOf, tables, tablesOf}
 use denote.Triple.Spec.{tripleOf}
 use denote.Triple.Table.{entered, cited}
-use Rattle.pair.specs.Pair.{nextOf}
+use Rattle.steps.specs.Steps.{nextOf}
 use Rattle.pair.proofs.Thin.{Core, thin-meets}
-use Rattle.pair.proofs.step.Symbol as core-def
-use Rattle.pair.proofs.step.Symbol.{name as #pair·step}
-use Rattle.pair.proofs.step.Met as core-thm
+use Rattle.steps.proofs.step.Symbol as core-def
+use Rattle.steps.proofs.step.Symbol.{name as #steps·step}
+use Rattle.steps.proofs.step.Met as core-thm
 use Rattle.pair.proofs.kettleplume_next.Key.{name as #pair·kettleplume-next}
 use Rattle.pair.proofs.kettleplume_next as f
 use Rattle.pair.proofs.kettleplume_next.Statement as stated
@@ -19,5 +19,5 @@ unfolding code.routine tablesOf
 kettleplume-next-spec 𝓤 H 𝓜 𝓖 𝓡 =
     entered 𝓤 H (tripleOf 𝓤 H (𝓖 .A) f.signature (f.spec 𝓤 H (𝓖 .A) (𝓜 .mem) (𝓡 .run)))
     (tables 𝓤 H 𝓜 𝓡 code.env .C) (tables 𝓤 H 𝓜 𝓡 code.env .Λ) #pair·kettleplume-next code.function (code.unfolded 𝓤 H 𝓜 𝓡)
-    (thin-meets (λ s t e n p. nextOf t e n p .stepped) (λ s t e n p. nextOf t e n p .tokens) (λ s t e n p. nextOf t e n p .errors) (λ s t e n p. nextOf t e n p .nodes) 𝓤 H (𝓖 .A) (givenOf 𝓤 H 𝓜 𝓖) #pair·step (tablesOf 𝓤 H 𝓜 (tables 𝓤 H 𝓜 𝓡 code.env))
-    (cited 𝓤 H (Core (λ s t e n p. nextOf t e n p .stepped) (λ s t e n p. nextOf t e n p .tokens) (λ s t e n p. nextOf t e n p .errors) (λ s t e n p. nextOf t e n p .nodes) 𝓤 H (𝓖 .A)) 𝓜 𝓡 code.env #pair·step core-def.routine code.calls-pair·step (core-thm.met 𝓤 H 𝓜 𝓖 𝓡)))
+    (thin-meets (λ s t e n p. nextOf t e n p .stepped) (λ s t e n p. nextOf t e n p .tokens) (λ s t e n p. nextOf t e n p .errors) (λ s t e n p. nextOf t e n p .nodes) 𝓤 H (𝓖 .A) (givenOf 𝓤 H 𝓜 𝓖) #steps·step (tablesOf 𝓤 H 𝓜 (tables 𝓤 H 𝓜 𝓡 code.env))
+    (cited 𝓤 H (Core (λ s t e n p. nextOf t e n p .stepped) (λ s t e n p. nextOf t e n p .tokens) (λ s t e n p. nextOf t e n p .errors) (λ s t e n p. nextOf t e n p .nodes) 𝓤 H (𝓖 .A)) 𝓜 𝓡 code.env #steps·step core-def.routine code.calls-steps·step (core-thm.met 𝓤 H 𝓜 𝓖 𝓡)))

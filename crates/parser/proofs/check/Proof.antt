@@ -1,5 +1,7 @@
 -- `parser::check` meets its contract. Assumes nothing.
+use mathlib.Core.Path.{sym, ap, _∙_}
 use native.Mathlib.Omega.{arith}
+use Rattle.parser.specs.Tokens.{kindAt}
 use Rattle.parser.proofs.Look.{check-line, check-no-line, check-found, check-none}
 use borrow.Author.Needs.{needs}
 use Rattle.parser.proofs.check.Statement.{statement}
@@ -15,16 +17,20 @@ kind-at-requires-2 : tie.Need-kind-at-requires-2
 kind-at-requires-2 c κs = search needs
 
 returns : tie.Need-returns
-returns c = check-line _ _ _ (omega arith) (cc)
+returns c = check-line _ _ _ (omega arith) (sym (c .before .kind-at .ensures) ∙ c .if2 .taken)
 
 returns-2 : tie.Need-returns-2
-returns-2 c = check-no-line _ _ _ (omega arith) (λ e. c .if2 .left (cc))
+returns-2 c = check-no-line _ _ _ (omega arith) (λ e. c .if2 .left (c .before .kind-at .ensures ∙ e))
 
 returns-3 : tie.Need-returns-3
-returns-3 c = check-found _ _ _ _ (cc) (omega arith) (cc)
+returns-3 c =
+    let s = c .before .before .skip .ensures in
+    check-found _ _ _ _ s (omega arith) (ap (kindAt _) (sym s) ∙ sym (c .before .kind-at2 .ensures) ∙ c .if3 .taken)
 
 returns-4 : tie.Need-returns-4
-returns-4 c = check-none _ _ _ (omega arith) (λ e. c .if3 .left (cc))
+returns-4 c =
+    let s = c .before .before .skip .ensures in
+    check-none _ _ _ (omega arith) (λ e. c .if3 .left (c .before .kind-at2 .ensures ∙ ap (kindAt _) s ∙ e))
 
 pub check-spec : {M : Type 1} → statement M
 check-spec =

@@ -1,5 +1,5 @@
 -- `parser::skip` meets its contract: passing a Newline changes nothing. Assumes nothing.
-use mathlib.Core.Path.{_≡_, refl, _∙_}
+use mathlib.Core.Path.{_≡_, refl, sym, _∙_}
 use Prim.Native.Nat.{_-_}
 use native.Mathlib.Omega.{arith}
 use Rattle.parser.specs.Tokens.{count, kindAt, skipLines}
@@ -20,7 +20,7 @@ kind-at-requires : tie.Need-kind-at-requires Inv-loop μ-loop
 kind-at-requires c κs = tt
 
 newline : (c : tie.Then1 Inv-loop μ-loop) → kindAt (c .before .before .before .before .args .tokens .now) (c .before .before .loop .i) ≡ 1
-newline c = cc
+newline c = sym (c .before .kind-at .ensures) ∙ c .if1 .taken
 
 add-i : tie.Need-add-i Inv-loop μ-loop
 add-i c = let h = kind-inside _ _ 0 (newline c) in omega arith
@@ -32,7 +32,7 @@ loop-again : tie.Need-loop-again Inv-loop μ-loop
 loop-again c = skip-more _ _ (newline c) ∙ c .before .before .loop .inv
 
 returns : tie.Need-returns Inv-loop μ-loop
-returns c = skip-end _ _ (λ e. c .if1 .left (cc)) ∙ c .before .before .loop .inv
+returns c = skip-end _ _ (λ e. c .if1 .left (c .before .kind-at .ensures ∙ e)) ∙ c .before .before .loop .inv
 
 pub skip-spec : {M : Type 1} → statement M
 skip-spec =

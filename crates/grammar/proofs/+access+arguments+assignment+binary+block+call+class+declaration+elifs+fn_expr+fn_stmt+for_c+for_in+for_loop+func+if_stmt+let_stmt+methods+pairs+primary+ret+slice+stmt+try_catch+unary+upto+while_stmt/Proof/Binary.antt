@@ -6,29 +6,26 @@ use native.Mathlib.Omega.{arith}
 use lib.ListN.{length, drop}
 use Rattle.parser.specs.declared.State.{State}
 use Rattle.parser.specs.declared.Found.{Found}
-use Rattle.parser.specs.declared.Out.{Out}
 use Rattle.parser.specs.Tokens.{count}
 use Rattle.parser.specs.Tables.{Reply, reply}
 use Rattle.parser.specs.Programs.{run}
 use Rattle.parser.specs.Grammar.{lower, levels}
-use Rattle.pieces.specs.Pieces.{binaryAt}
-use Rattle.pieces.proofs.NextKind.{peeked}
+use Rattle.operators.specs.Operators.{binaryAt}
 use Rattle.pieces.proofs.Turns.{not-back, make-on}
-use Rattle.grammar.proofs.Operators.{onward, operator-past, turns-all, turns-found, turns-over}
+use Rattle.operators.proofs.Operators.{onward, spare, spare-enough, taken, turns, turns-all}
 use Rattle.grammar.proofs.binary.Reads as binary
 use Rattle.grammar.proofs.+access+arguments+assignment+binary+block+call+class+declaration+elifs+fn_expr+fn_stmt+for_c+for_in+for_loop+func+if_stmt+let_stmt+methods+pairs+primary+ret+slice+stmt+try_catch+unary+upto+while_stmt.Lts-binary as binary-lts
 use Rattle.grammar.proofs.unary.Reads as unary
+use Rattle.operators.proofs.operation.Reads as operation-reads
+use Rattle.operators.proofs.turn_at.Reads as turn-at-reads
 use Rattle.parser.proofs.State.at_token.Reads as at-token-reads
 use Rattle.parser.proofs.make.Reads as make-reads
-use Rattle.parser.proofs.peek.Reads as peek-reads
 use Rattle.pieces.proofs.found.Reads as found-reads
-use Rattle.pieces.proofs.operation.Reads as operation-reads
-use Rattle.pieces.proofs.rank_of.Reads as rank-of-reads
 use Rattle.grammar.proofs.+access+arguments+assignment+binary+block+call+class+declaration+elifs+fn_expr+fn_stmt+for_c+for_in+for_loop+func+if_stmt+let_stmt+methods+pairs+primary+ret+slice+stmt+try_catch+unary+upto+while_stmt.Proof.Measures.{binary-at, binary-below, unary-below}
 use borrow.Author.Needs.{needs}
 
 abbrev claims : ℕ → binary-lts.Claims
-claims t = (unary-below t, unary.Post, peek-reads.Asked, peek-reads.Learnt, rank-of-reads.Asked, rank-of-reads.Learnt, found-reads.Asked, found-reads.Learnt, at-token-reads.Asked, at-token-reads.Learnt, binary-below t, binary.Post, operation-reads.Asked, operation-reads.Learnt, make-reads.Asked, make-reads.Learnt)
+claims t = (unary-below t, unary.Post, turn-at-reads.Asked, turn-at-reads.Learnt, found-reads.Asked, found-reads.Learnt, at-token-reads.Asked, at-token-reads.Learnt, binary-below t, binary.Post, operation-reads.Asked, operation-reads.Learnt, make-reads.Asked, make-reads.Learnt)
 
 -- the turns that are left, with r the tightest level that is open
 abbrev onFrom : List ℕ → ℕ → ℕ → ℕ → ℕ → Found → State → List ℕ → List ℕ → Reply
@@ -53,20 +50,18 @@ binary-μ-loop tokens errors₀ nodes₀ levels looser left₀ s₀ r₀ errors 
 head : (t : ℕ) (c : binary-lts.At-loop (claims t) (binary-at t) binary.Post binary-Inv-loop binary-μ-loop) → run (c .before .before .before .before .before .before .before .before .before .before .before .before .before .before .before .args .tokens .now) (lower (c .before .before .before .before .before .before .before .before .before .before .before .before .before .before .before .args .tokens .now) (c .before .before .before .before .before .before .before .before .before .before .before .before .before .before .before .args .levels)) (binaryAt (c .before .before .before .before .before .before .before .before .before .before .before .before .before .before .before .args .tokens .now) (c .before .before .before .before .before .before .before .before .before .before .before .before .before .before .before .args .looser)) (c .before .before .before .before .before .before .before .before .before .before .before .before .before .before .before .args .p) (c .before .before .before .before .before .before .before .before .before .before .before .before .before .before .before .args .errors .now) (c .before .before .before .before .before .before .before .before .before .before .before .before .before .before .before .args .nodes .now) ≡ onFrom (c .before .before .before .before .before .before .before .before .before .before .before .before .before .before .before .args .tokens .now) (c .before .before .before .before .before .before .before .before .before .before .before .before .before .before .before .args .levels) (c .before .before .before .before .before .before .before .before .before .before .before .before .before .before .before .args .looser) (suc (c .loop .inv .fuel)) (c .loop .r) (c .loop .left) (c .loop .s) (c .loop .errors) (c .loop .nodes)
 head t c = rw (turns-all (c .before .before .before .before .before .before .before .before .before .before .before .before .before .before .before .args .tokens .now) (lower (c .before .before .before .before .before .before .before .before .before .before .before .before .before .before .before .args .tokens .now) (c .before .before .before .before .before .before .before .before .before .before .before .before .before .before .before .args .levels)) (c .before .before .before .before .before .before .before .before .before .before .before .before .before .before .before .args .looser) (c .before .before .before .before .before .before .before .before .before .before .before .before .before .before .before .args .p) (c .before .before .before .before .before .before .before .before .before .before .before .before .before .before .before .args .errors .now) (c .before .before .before .before .before .before .before .before .before .before .before .before .before .before .before .args .nodes .now), ← c .before .before .before .before .before .before .before .before .before .unary .ensures, c .before .before .before .k .given .1) (sym (c .loop .inv .same))
 
-turn : (t : ℕ) (c : binary-lts.After-s2 (claims t) (binary-at t) binary.Post binary-Inv-loop binary-μ-loop) → (c .before .before .before .before .before .before .before .before .before .before .before .before .before .before .before .before .before .before .before .before .before .before .before .before .before .loop .s .current < c .before .before .before .before .before .before .make .result .p .current) × (c .before .before .before .before .before .before .before .before .before .before .before .before .before .before .before .before .before .before .before .before .before .before .before .before .before .loop .s .current < count (c .before .before .before .before .before .before .before .before .before .before .before .before .before .before .before .before .before .before .before .before .before .before .before .before .before .before .before .before .before .before .before .before .before .before .before .before .before .before .before .before .args .tokens .now))
-turn t c =
-    let n = peeked (c .before .before .before .before .before .before .before .before .before .before .before .before .before .before .before .before .before .before .before .before .before .before .before .before .before .before .before .before .before .before .before .before .before .before .before .before .before .before .before .before .args .tokens .now) (c .before .before .before .before .before .before .before .before .before .before .before .before .before .before .before .before .before .before .before .before .before .before .before .before .before .loop .s .current) _ (c .before .before .before .before .before .before .before .before .before .before .before .before .before .before .before .before .before .before .before .before .before .before .before .before .peek .ensures) in
-    let g = operator-past _ _ _ _ (c .before .before .before .before .before .before .before .before .before .before .before .before .before .before .before .before .before .before .before .before .before .before .before .rank-of .result) n (omega (arith, c .before .before .before .before .before .before .before .before .before .before .before .before .before .before .before .before .before .before .before .before .before .before .if1 .left)) (omega (arith, c .before .before .before .before .before .before .before .before .before .before .before .before .before .before .before .before .before .before .before .before .before .if2 .left, c .before .before .before .before .before .before .before .before .before .before .before .before .before .before .before .before .before .before .before .before .before .before .before .before .before .loop .inv .within)) (sym (c .before .before .before .before .before .before .before .before .before .before .before .before .before .before .before .before .before .before .before .before .before .before .before .rank-of .ensures)) in
+passes : (t : ℕ) (c : binary-lts.After-s2 (claims t) (binary-at t) binary.Post binary-Inv-loop binary-μ-loop) → (c .before .before .before .before .before .before .before .before .before .before .before .before .before .before .before .before .before .before .before .before .before .before .before .before .before .loop .s .current < c .before .before .before .before .before .before .make .result .p .current) × (c .before .before .before .before .before .before .before .before .before .before .before .before .before .before .before .before .before .before .before .before .before .before .before .before .before .loop .s .current < count (c .before .before .before .before .before .before .before .before .before .before .before .before .before .before .before .before .before .before .before .before .before .before .before .before .before .before .before .before .before .before .before .before .before .before .before .before .before .before .before .before .args .tokens .now))
+passes t c =
+    let k = taken _ _ _ _ _ _ (c .before .before .before .before .before .before .before .before .before .before .before .before .before .before .before .before .before .before .before .before .before .before .before .before .before .loop .inv .within) (sym (c .before .before .before .before .before .before .before .before .before .before .before .before .before .before .before .before .before .before .before .before .before .before .before .before .turn-at .ensures) ∙ c .before .before .before .before .before .before .before .before .before .before .before .before .before .before .before .before .before .before .before .before .before .before .rank .given .1) in
     let a = ap (λ (x : State). x .current) (c .before .before .before .before .before .before .before .before .before .before .before .before .before .before .before .before .before .before .at-token .ensures) in
-    let b = not-back (c .before .before .before .before .before .before .before .before .before .before .before .before .before .before .before .before .before .before .before .before .before .before .before .before .before .before .before .before .before .before .before .before .before .before .before .before .before .before .before .before .args .tokens .now) (c .before .before .before .before .before .before .before .before .before .before .before .before .before .before .before .before .before .before .before .before .before .before .before .before .before .before .before .before .before .before .before .before .before .before .before .before .before .before .before .before .args .levels) (binaryAt (c .before .before .before .before .before .before .before .before .before .before .before .before .before .before .before .before .before .before .before .before .before .before .before .before .before .before .before .before .before .before .before .before .before .before .before .before .before .before .before .before .args .tokens .now) (c .before .before .before .before .before .before .before .before .before .before .before .before .before .before .before .before .before .before .before .before .before .before .before .rank-of .result)) _ _ _ _ _ _ _ (c .before .before .before .before .before .before .before .before .before .before .before .before .before .before .before .before .before .binary .ensures) in
+    let b = not-back (c .before .before .before .before .before .before .before .before .before .before .before .before .before .before .before .before .before .before .before .before .before .before .before .before .before .before .before .before .before .before .before .before .before .before .before .before .before .before .before .before .args .tokens .now) (c .before .before .before .before .before .before .before .before .before .before .before .before .before .before .before .before .before .before .before .before .before .before .before .before .before .before .before .before .before .before .before .before .before .before .before .before .before .before .before .before .args .levels) (binaryAt (c .before .before .before .before .before .before .before .before .before .before .before .before .before .before .before .before .before .before .before .before .before .before .before .before .before .before .before .before .before .before .before .before .before .before .before .before .before .before .before .before .args .tokens .now) (c .before .before .before .before .before .before .before .before .before .before .before .before .before .before .before .before .before .before .before .before .before .before .rank .given .0 .0)) _ _ _ _ _ _ _ (c .before .before .before .before .before .before .before .before .before .before .before .before .before .before .before .before .before .binary .ensures) in
     let d = make-on _ _ _ _ [] _ [] _ (c .before .before .before .before .before .before .make .ensures []) in
-    (omega arith, g .1)
+    (omega (arith, k .passed), k .inside)
 
-again : (t : ℕ) (c : binary-lts.After-s2 (claims t) (binary-at t) binary.Post binary-Inv-loop binary-μ-loop) → let n = peeked (c .before .before .before .before .before .before .before .before .before .before .before .before .before .before .before .before .before .before .before .before .before .before .before .before .before .before .before .before .before .before .before .before .before .before .before .before .before .before .before .before .args .tokens .now) (c .before .before .before .before .before .before .before .before .before .before .before .before .before .before .before .before .before .before .before .before .before .before .before .before .before .loop .s .current) _ (c .before .before .before .before .before .before .before .before .before .before .before .before .before .before .before .before .before .before .before .before .before .before .before .before .peek .ensures) in let e = turns-found (c .before .before .before .before .before .before .before .before .before .before .before .before .before .before .before .before .before .before .before .before .before .before .before .before .before .before .before .before .before .before .before .before .before .before .before .before .before .before .before .before .args .tokens .now) (lower (c .before .before .before .before .before .before .before .before .before .before .before .before .before .before .before .before .before .before .before .before .before .before .before .before .before .before .before .before .before .before .before .before .before .before .before .before .before .before .before .before .args .tokens .now) (c .before .before .before .before .before .before .before .before .before .before .before .before .before .before .before .before .before .before .before .before .before .before .before .before .before .before .before .before .before .before .before .before .before .before .before .before .before .before .before .before .args .levels)) (c .before .before .before .before .before .before .before .before .before .before .before .before .before .before .before .before .before .before .before .before .before .before .before .before .before .before .before .before .before .before .before .before .before .before .before .before .before .before .before .before .args .looser) (c .before .before .before .before .before .before .before .before .before .before .before .before .before .before .before .before .before .before .before .before .before .before .before .before .before .loop .left) (c .before .before .before .before .before .before .before .before .before .before .before .before .before .before .before .before .before .before .before .before .before .before .before .before .before .loop .s) (c .before .before .before .before .before .before .before .before .before .before .before .before .before .before .before .before .before .before .before .before .before .before .before .before .before .loop .errors) (c .before .before .before .before .before .before .before .before .before .before .before .before .before .before .before .before .before .before .before .before .before .before .before .before .before .loop .nodes) _ _ n (c .before .before .before .before .before .before .before .before .before .before .before .before .before .before .before .before .before .before .before .before .before .before .before .before .before .loop .inv .fuel) (c .before .before .before .before .before .before .before .before .before .before .before .before .before .before .before .before .before .before .before .before .before .before .before .before .before .loop .r) (c .before .before .before .before .before .before .before .before .before .before .before .before .before .before .before .before .before .before .before .before .before .before .before .rank-of .result) (c .before .before .before .before .before .before .before .before .before .before .before .before .before .before .before .before .before .before .before .before .before .before .if1 .left) (c .before .before .before .before .before .before .before .before .before .before .before .before .before .before .before .before .before .before .before .before .before .if2 .left) (c .before .before .before .before .before .before .before .before .before .before .before .before .before .before .before .before .before .before .before .before .before .before .before .before .before .loop .inv .within) (c .before .before .before .before .before .before .before .before .before .before .before .before .before .before .before .before .before .before .before .before .before .before .before .before .before .loop .inv .enough) (sym (c .before .before .before .before .before .before .before .before .before .before .before .before .before .before .before .before .before .before .before .before .before .before .before .rank-of .ensures)) in onFrom (c .before .before .before .before .before .before .before .before .before .before .before .before .before .before .before .before .before .before .before .before .before .before .before .before .before .before .before .before .before .before .before .before .before .before .before .before .before .before .before .before .args .tokens .now) (c .before .before .before .before .before .before .before .before .before .before .before .before .before .before .before .before .before .before .before .before .before .before .before .before .before .before .before .before .before .before .before .before .before .before .before .before .before .before .before .before .args .levels) (c .before .before .before .before .before .before .before .before .before .before .before .before .before .before .before .before .before .before .before .before .before .before .before .before .before .before .before .before .before .before .before .before .before .before .before .before .before .before .before .before .args .looser) (e .fuelled) (c .before .before .before .before .before .before .before .before .before .before .before .before .before .before .before .before .before .before .before .before .before .before .before .rank-of .result) (c .before .before .km .given .0 .0) (c .before .before .before .before .before .before .make .result .p) (c .before .before .before .before .before .before .before .before .before .before .before .before .before .before .before .before .before .binary .last .1 .0) (c .before .before .before .before .before .before .make .last .0) ≡ onFrom (c .before .before .before .before .before .before .before .before .before .before .before .before .before .before .before .before .before .before .before .before .before .before .before .before .before .before .before .before .before .before .before .before .before .before .before .before .before .before .before .before .args .tokens .now) (c .before .before .before .before .before .before .before .before .before .before .before .before .before .before .before .before .before .before .before .before .before .before .before .before .before .before .before .before .before .before .before .before .before .before .before .before .before .before .before .before .args .levels) (c .before .before .before .before .before .before .before .before .before .before .before .before .before .before .before .before .before .before .before .before .before .before .before .before .before .before .before .before .before .before .before .before .before .before .before .before .before .before .before .before .args .looser) (suc (c .before .before .before .before .before .before .before .before .before .before .before .before .before .before .before .before .before .before .before .before .before .before .before .before .before .loop .inv .fuel)) (c .before .before .before .before .before .before .before .before .before .before .before .before .before .before .before .before .before .before .before .before .before .before .before .before .before .loop .r) (c .before .before .before .before .before .before .before .before .before .before .before .before .before .before .before .before .before .before .before .before .before .before .before .before .before .loop .left) (c .before .before .before .before .before .before .before .before .before .before .before .before .before .before .before .before .before .before .before .before .before .before .before .before .before .loop .s) (c .before .before .before .before .before .before .before .before .before .before .before .before .before .before .before .before .before .before .before .before .before .before .before .before .before .loop .errors) (c .before .before .before .before .before .before .before .before .before .before .before .before .before .before .before .before .before .before .before .before .before .before .before .before .before .loop .nodes)
+again : (t : ℕ) (c : binary-lts.After-s2 (claims t) (binary-at t) binary.Post binary-Inv-loop binary-μ-loop) → onFrom (c .before .before .before .before .before .before .before .before .before .before .before .before .before .before .before .before .before .before .before .before .before .before .before .before .before .before .before .before .before .before .before .before .before .before .before .before .before .before .before .before .args .tokens .now) (c .before .before .before .before .before .before .before .before .before .before .before .before .before .before .before .before .before .before .before .before .before .before .before .before .before .before .before .before .before .before .before .before .before .before .before .before .before .before .before .before .args .levels) (c .before .before .before .before .before .before .before .before .before .before .before .before .before .before .before .before .before .before .before .before .before .before .before .before .before .before .before .before .before .before .before .before .before .before .before .before .before .before .before .before .args .looser) (spare (c .before .before .before .before .before .before .before .before .before .before .before .before .before .before .before .before .before .before .before .before .before .before .before .before .before .before .before .before .before .before .before .before .before .before .before .before .before .before .before .before .args .tokens .now) (c .before .before .before .before .before .before .before .before .before .before .before .before .before .before .before .before .before .before .before .before .before .before .before .before .before .loop .inv .fuel) (c .before .before .before .before .before .before .before .before .before .before .before .before .before .before .before .before .before .before .before .before .before .before .before .before .before .loop .r - c .before .before .before .before .before .before .before .before .before .before .before .before .before .before .before .before .before .before .before .before .before .before .rank .given .0 .0)) (c .before .before .before .before .before .before .before .before .before .before .before .before .before .before .before .before .before .before .before .before .before .before .rank .given .0 .0) (c .before .before .km .given .0 .0) (c .before .before .before .before .before .before .make .result .p) (c .before .before .before .before .before .before .before .before .before .before .before .before .before .before .before .before .before .binary .last .1 .0) (c .before .before .before .before .before .before .make .last .0) ≡ onFrom (c .before .before .before .before .before .before .before .before .before .before .before .before .before .before .before .before .before .before .before .before .before .before .before .before .before .before .before .before .before .before .before .before .before .before .before .before .before .before .before .before .args .tokens .now) (c .before .before .before .before .before .before .before .before .before .before .before .before .before .before .before .before .before .before .before .before .before .before .before .before .before .before .before .before .before .before .before .before .before .before .before .before .before .before .before .before .args .levels) (c .before .before .before .before .before .before .before .before .before .before .before .before .before .before .before .before .before .before .before .before .before .before .before .before .before .before .before .before .before .before .before .before .before .before .before .before .before .before .before .before .args .looser) (suc (c .before .before .before .before .before .before .before .before .before .before .before .before .before .before .before .before .before .before .before .before .before .before .before .before .before .loop .inv .fuel)) (c .before .before .before .before .before .before .before .before .before .before .before .before .before .before .before .before .before .before .before .before .before .before .before .before .before .loop .r) (c .before .before .before .before .before .before .before .before .before .before .before .before .before .before .before .before .before .before .before .before .before .before .before .before .before .loop .left) (c .before .before .before .before .before .before .before .before .before .before .before .before .before .before .before .before .before .before .before .before .before .before .before .before .before .loop .s) (c .before .before .before .before .before .before .before .before .before .before .before .before .before .before .before .before .before .before .before .before .before .before .before .before .before .loop .errors) (c .before .before .before .before .before .before .before .before .before .before .before .before .before .before .before .before .before .before .before .before .before .before .before .before .before .loop .nodes)
 again t c =
-    let n = peeked (c .before .before .before .before .before .before .before .before .before .before .before .before .before .before .before .before .before .before .before .before .before .before .before .before .before .before .before .before .before .before .before .before .before .before .before .before .before .before .before .before .args .tokens .now) (c .before .before .before .before .before .before .before .before .before .before .before .before .before .before .before .before .before .before .before .before .before .before .before .before .before .loop .s .current) _ (c .before .before .before .before .before .before .before .before .before .before .before .before .before .before .before .before .before .before .before .before .before .before .before .before .peek .ensures) in
-    let e = turns-found (c .before .before .before .before .before .before .before .before .before .before .before .before .before .before .before .before .before .before .before .before .before .before .before .before .before .before .before .before .before .before .before .before .before .before .before .before .before .before .before .before .args .tokens .now) (lower (c .before .before .before .before .before .before .before .before .before .before .before .before .before .before .before .before .before .before .before .before .before .before .before .before .before .before .before .before .before .before .before .before .before .before .before .before .before .before .before .before .args .tokens .now) (c .before .before .before .before .before .before .before .before .before .before .before .before .before .before .before .before .before .before .before .before .before .before .before .before .before .before .before .before .before .before .before .before .before .before .before .before .before .before .before .before .args .levels)) (c .before .before .before .before .before .before .before .before .before .before .before .before .before .before .before .before .before .before .before .before .before .before .before .before .before .before .before .before .before .before .before .before .before .before .before .before .before .before .before .before .args .looser) (c .before .before .before .before .before .before .before .before .before .before .before .before .before .before .before .before .before .before .before .before .before .before .before .before .before .loop .left) (c .before .before .before .before .before .before .before .before .before .before .before .before .before .before .before .before .before .before .before .before .before .before .before .before .before .loop .s) (c .before .before .before .before .before .before .before .before .before .before .before .before .before .before .before .before .before .before .before .before .before .before .before .before .before .loop .errors) (c .before .before .before .before .before .before .before .before .before .before .before .before .before .before .before .before .before .before .before .before .before .before .before .before .before .loop .nodes) _ _ n (c .before .before .before .before .before .before .before .before .before .before .before .before .before .before .before .before .before .before .before .before .before .before .before .before .before .loop .inv .fuel) (c .before .before .before .before .before .before .before .before .before .before .before .before .before .before .before .before .before .before .before .before .before .before .before .before .before .loop .r) (c .before .before .before .before .before .before .before .before .before .before .before .before .before .before .before .before .before .before .before .before .before .before .before .rank-of .result) (c .before .before .before .before .before .before .before .before .before .before .before .before .before .before .before .before .before .before .before .before .before .before .if1 .left) (c .before .before .before .before .before .before .before .before .before .before .before .before .before .before .before .before .before .before .before .before .before .if2 .left) (c .before .before .before .before .before .before .before .before .before .before .before .before .before .before .before .before .before .before .before .before .before .before .before .before .before .loop .inv .within) (c .before .before .before .before .before .before .before .before .before .before .before .before .before .before .before .before .before .before .before .before .before .before .before .before .before .loop .inv .enough) (sym (c .before .before .before .before .before .before .before .before .before .before .before .before .before .before .before .before .before .before .before .before .before .before .before .rank-of .ensures)) in
-    rw (e .same, ← c .before .before .before .before .before .before .before .before .before .before .before .before .before .before .before .before .before .before .at-token .ensures, ← c .before .before .before .before .before .before .before .before .before .before .before .before .before .before .before .before .before .binary .ensures) (rw (c .before .before .before .before .before .before .before .before .before .before .before .kh .given .1, ← c .before .before .before .before .before .before .before .operation .ensures, ← c .before .before .before .before .before .before .make .ensures (c .before .before .before .before .before .before .before .before .before .before .before .before .before .before .before .before .before .binary .last .1 .0)) (rw (c .before .before .km .given .1)))
+    let e = turns (c .before .before .before .before .before .before .before .before .before .before .before .before .before .before .before .before .before .before .before .before .before .before .before .before .before .before .before .before .before .before .before .before .before .before .before .before .before .before .before .before .args .tokens .now) (lower (c .before .before .before .before .before .before .before .before .before .before .before .before .before .before .before .before .before .before .before .before .before .before .before .before .before .before .before .before .before .before .before .before .before .before .before .before .before .before .before .before .args .tokens .now) (c .before .before .before .before .before .before .before .before .before .before .before .before .before .before .before .before .before .before .before .before .before .before .before .before .before .before .before .before .before .before .before .before .before .before .before .before .before .before .before .before .args .levels)) (c .before .before .before .before .before .before .before .before .before .before .before .before .before .before .before .before .before .before .before .before .before .before .before .before .before .before .before .before .before .before .before .before .before .before .before .before .before .before .before .before .args .looser) (c .before .before .before .before .before .before .before .before .before .before .before .before .before .before .before .before .before .before .before .before .before .before .before .before .before .loop .left) (c .before .before .before .before .before .before .before .before .before .before .before .before .before .before .before .before .before .before .before .before .before .before .before .before .before .loop .s) (c .before .before .before .before .before .before .before .before .before .before .before .before .before .before .before .before .before .before .before .before .before .before .before .before .before .loop .errors) (c .before .before .before .before .before .before .before .before .before .before .before .before .before .before .before .before .before .before .before .before .before .before .before .before .before .loop .nodes) (c .before .before .before .before .before .before .before .before .before .before .before .before .before .before .before .before .before .before .before .before .before .before .before .before .before .loop .inv .fuel) (c .before .before .before .before .before .before .before .before .before .before .before .before .before .before .before .before .before .before .before .before .before .before .before .before .before .loop .r) (c .before .before .before .before .before .before .before .before .before .before .before .before .before .before .before .before .before .before .before .before .before .before .before .before .before .loop .inv .within) in
+    rw (e, ← c .before .before .before .before .before .before .before .before .before .before .before .before .before .before .before .before .before .before .before .before .before .before .before .before .turn-at .ensures, c .before .before .before .before .before .before .before .before .before .before .before .before .before .before .before .before .before .before .before .before .before .before .rank .given .1) (rw (← c .before .before .before .before .before .before .before .before .before .before .before .before .before .before .before .before .before .before .at-token .ensures, ← c .before .before .before .before .before .before .before .before .before .before .before .before .before .before .before .before .before .binary .ensures, c .before .before .before .before .before .before .before .before .before .before .before .kh .given .1) (rw (← c .before .before .before .before .before .before .before .operation .ensures, ← c .before .before .before .before .before .before .make .ensures (c .before .before .before .before .before .before .before .before .before .before .before .before .before .before .before .before .before .binary .last .1 .0), c .before .before .km .given .1)))
 
 unary-requires : (t : ℕ) → binary-lts.Need-unary-requires (claims t) (binary-at t) binary.Post binary-Inv-loop binary-μ-loop
 unary-requires t c κs = omega (arith, c .before .before .before .before .before .pre)
@@ -91,11 +86,14 @@ returns t c =
 loop-holds : (t : ℕ) → binary-lts.Need-loop-holds (claims t) (binary-at t) binary.Post binary-Inv-loop binary-μ-loop
 loop-holds t c = record { fuel = count (c .before .before .before .before .before .before .before .before .before .before .before .before .before .before .args .tokens .now); enough = omega arith; within = omega arith; same = refl; errors = refl; nodes = refl }
 
-peek-requires : (t : ℕ) → binary-lts.Need-peek-requires (claims t) (binary-at t) binary.Post binary-Inv-loop binary-μ-loop
-peek-requires t c κs = search needs
+turn-at-requires : (t : ℕ) → binary-lts.Need-turn-at-requires (claims t) (binary-at t) binary.Post binary-Inv-loop binary-μ-loop
+turn-at-requires t c κs = search needs
 
-rank-of-requires : (t : ℕ) → binary-lts.Need-rank-of-requires (claims t) (binary-at t) binary.Post binary-Inv-loop binary-μ-loop
-rank-of-requires t c κs = search needs
+enum-known-rank : (t : ℕ) → binary-lts.Need-enum-known-rank (claims t) (binary-at t) binary.Post binary-Inv-loop binary-μ-loop
+enum-known-rank t c = search needs
+
+enum-told-2 : (t : ℕ) → binary-lts.Need-enum-told-2 (claims t) (binary-at t) binary.Post binary-Inv-loop binary-μ-loop
+enum-told-2 t c = search needs
 
 found-requires : (t : ℕ) → binary-lts.Need-found-requires (claims t) (binary-at t) binary.Post binary-Inv-loop binary-μ-loop
 found-requires t c κs = search needs
@@ -108,48 +106,33 @@ same-length-4 t c = c .before .before .before .before .loop .inv .nodes ∙ c .b
 
 returns-2 : (t : ℕ) → binary-lts.Need-returns-2 (claims t) (binary-at t) binary.Post binary-Inv-loop binary-μ-loop
 returns-2 t c =
-    let n = peeked (c .before .before .before .before .before .before .before .before .before .before .before .before .before .before .before .before .before .before .before .args .tokens .now) (c .before .before .before .before .loop .s .current) _ (c .before .before .before .peek .ensures) in
-    let o = turns-over (c .before .before .before .before .before .before .before .before .before .before .before .before .before .before .before .before .before .before .before .args .tokens .now) (lower (c .before .before .before .before .before .before .before .before .before .before .before .before .before .before .before .before .before .before .before .args .tokens .now) (c .before .before .before .before .before .before .before .before .before .before .before .before .before .before .before .before .before .before .before .args .levels)) (c .before .before .before .before .before .before .before .before .before .before .before .before .before .before .before .before .before .before .before .args .looser) (c .before .before .before .before .loop .left) (c .before .before .before .before .loop .s) (c .before .before .before .before .loop .errors) (c .before .before .before .before .loop .nodes) _ _ n (c .before .before .before .before .loop .inv .fuel) (c .before .before .before .before .loop .r) (c .before .before .before .before .loop .inv .within) (c .before .before .before .before .loop .inv .enough) (λ y a b i. absurd (omega (arith, a, c .before .if1 .taken, i, c .before .before .rank-of .ensures))) in
-    ap (λ (x : Out). reply (x .p) (x .got) (c .before .before .before .before .loop .errors) (c .before .before .before .before .loop .nodes)) (c .found .ensures) ∙ sym (head t (c .before .before .before .before) ∙ o)
-
-found-requires-2 : (t : ℕ) → binary-lts.Need-found-requires-2 (claims t) (binary-at t) binary.Post binary-Inv-loop binary-μ-loop
-found-requires-2 t c κs = search needs
-
-same-length-5 : (t : ℕ) → binary-lts.Need-same-length-5 (claims t) (binary-at t) binary.Post binary-Inv-loop binary-μ-loop
-same-length-5 t c = c .before .before .before .before .before .loop .inv .errors ∙ c .before .before .before .before .before .before .before .before .before .before .before .before .before .before .unary .kept .1 .0
-
-same-length-6 : (t : ℕ) → binary-lts.Need-same-length-6 (claims t) (binary-at t) binary.Post binary-Inv-loop binary-μ-loop
-same-length-6 t c = c .before .before .before .before .before .loop .inv .nodes ∙ c .before .before .before .before .before .before .before .before .before .before .before .before .before .before .unary .kept .1 .1 .0
-
-returns-3 : (t : ℕ) → binary-lts.Need-returns-3 (claims t) (binary-at t) binary.Post binary-Inv-loop binary-μ-loop
-returns-3 t c =
-    let n = peeked (c .before .before .before .before .before .before .before .before .before .before .before .before .before .before .before .before .before .before .before .before .args .tokens .now) (c .before .before .before .before .before .loop .s .current) _ (c .before .before .before .before .peek .ensures) in
-    let o = turns-over (c .before .before .before .before .before .before .before .before .before .before .before .before .before .before .before .before .before .before .before .before .args .tokens .now) (lower (c .before .before .before .before .before .before .before .before .before .before .before .before .before .before .before .before .before .before .before .before .args .tokens .now) (c .before .before .before .before .before .before .before .before .before .before .before .before .before .before .before .before .before .before .before .before .args .levels)) (c .before .before .before .before .before .before .before .before .before .before .before .before .before .before .before .before .before .before .before .before .args .looser) (c .before .before .before .before .before .loop .left) (c .before .before .before .before .before .loop .s) (c .before .before .before .before .before .loop .errors) (c .before .before .before .before .before .loop .nodes) _ _ n (c .before .before .before .before .before .loop .inv .fuel) (c .before .before .before .before .before .loop .r) (c .before .before .before .before .before .loop .inv .within) (c .before .before .before .before .before .loop .inv .enough) (λ y a b i. absurd (omega (arith, b, c .before .if2 .taken, i, c .before .before .before .rank-of .ensures))) in
-    ap (λ (x : Out). reply (x .p) (x .got) (c .before .before .before .before .before .loop .errors) (c .before .before .before .before .before .loop .nodes)) (c .found2 .ensures) ∙ sym (head t (c .before .before .before .before .before) ∙ o)
+    let e = turns (c .before .before .before .before .before .before .before .before .before .before .before .before .before .before .before .before .before .before .before .args .tokens .now) (lower (c .before .before .before .before .before .before .before .before .before .before .before .before .before .before .before .before .before .before .before .args .tokens .now) (c .before .before .before .before .before .before .before .before .before .before .before .before .before .before .before .before .before .before .before .args .levels)) (c .before .before .before .before .before .before .before .before .before .before .before .before .before .before .before .before .before .before .before .args .looser) (c .before .before .before .before .loop .left) (c .before .before .before .before .loop .s) (c .before .before .before .before .loop .errors) (c .before .before .before .before .loop .nodes) (c .before .before .before .before .loop .inv .fuel) (c .before .before .before .before .loop .r) (c .before .before .before .before .loop .inv .within) in
+    rw (head t (c .before .before .before .before), e, ← c .before .before .before .turn-at .ensures) (rw (c .before .enum-told2 .given .1, c .found .ensures))
 
 at-token-requires : (t : ℕ) → binary-lts.Need-at-token-requires (claims t) (binary-at t) binary.Post binary-Inv-loop binary-μ-loop
 at-token-requires t c κs = search needs
 
 binary-requires : (t : ℕ) → binary-lts.Need-binary-requires (claims t) (binary-at t) binary.Post binary-Inv-loop binary-μ-loop
-binary-requires t c κs = omega (arith, c .before .before .before .before .before .before .before .before .before .before .before .before .before .before .before .before .before .before .before .before .before .before .pre, c .before .before .before .before .if1 .left, c .before .before .before .if2 .left, c .before .before .before .before .before .before .before .loop .inv .within)
+binary-requires t c κs =
+    let k = taken _ _ _ _ _ _ (c .before .before .before .before .before .before .before .loop .inv .within) (sym (c .before .before .before .before .before .before .turn-at .ensures) ∙ c .before .before .before .before .rank .given .1) in
+    omega (arith, c .before .before .before .before .before .before .before .before .before .before .before .before .before .before .before .before .before .before .before .before .before .before .pre, k .above, k .within, c .before .before .before .before .before .before .before .loop .inv .within)
 
 enum-known-kh : (t : ℕ) → binary-lts.Need-enum-known-kh (claims t) (binary-at t) binary.Post binary-Inv-loop binary-μ-loop
 enum-known-kh t c = search needs
 
-enum-told-2 : (t : ℕ) → binary-lts.Need-enum-told-2 (claims t) (binary-at t) binary.Post binary-Inv-loop binary-μ-loop
-enum-told-2 t c = search needs
+enum-told-3 : (t : ℕ) → binary-lts.Need-enum-told-3 (claims t) (binary-at t) binary.Post binary-Inv-loop binary-μ-loop
+enum-told-3 t c = search needs
 
-same-length-7 : (t : ℕ) → binary-lts.Need-same-length-7 (claims t) (binary-at t) binary.Post binary-Inv-loop binary-μ-loop
-same-length-7 t c = c .before .before .before .before .before .before .binary .kept .1 .0 ∙ c .before .before .before .before .before .before .before .before .before .before .before .before .before .before .loop .inv .errors ∙ c .before .before .before .before .before .before .before .before .before .before .before .before .before .before .before .before .before .before .before .before .before .before .before .unary .kept .1 .0
+same-length-5 : (t : ℕ) → binary-lts.Need-same-length-5 (claims t) (binary-at t) binary.Post binary-Inv-loop binary-μ-loop
+same-length-5 t c = c .before .before .before .before .before .before .binary .kept .1 .0 ∙ c .before .before .before .before .before .before .before .before .before .before .before .before .before .before .loop .inv .errors ∙ c .before .before .before .before .before .before .before .before .before .before .before .before .before .before .before .before .before .before .before .before .before .before .before .unary .kept .1 .0
 
-same-length-8 : (t : ℕ) → binary-lts.Need-same-length-8 (claims t) (binary-at t) binary.Post binary-Inv-loop binary-μ-loop
-same-length-8 t c = c .before .before .before .before .before .before .binary .kept .1 .1 .0 ∙ c .before .before .before .before .before .before .before .before .before .before .before .before .before .before .loop .inv .nodes ∙ c .before .before .before .before .before .before .before .before .before .before .before .before .before .before .before .before .before .before .before .before .before .before .before .unary .kept .1 .1 .0
+same-length-6 : (t : ℕ) → binary-lts.Need-same-length-6 (claims t) (binary-at t) binary.Post binary-Inv-loop binary-μ-loop
+same-length-6 t c = c .before .before .before .before .before .before .binary .kept .1 .1 .0 ∙ c .before .before .before .before .before .before .before .before .before .before .before .before .before .before .loop .inv .nodes ∙ c .before .before .before .before .before .before .before .before .before .before .before .before .before .before .before .before .before .before .before .before .before .before .before .unary .kept .1 .1 .0
 
-returns-4 : (t : ℕ) → binary-lts.Need-returns-4 (claims t) (binary-at t) binary.Post binary-Inv-loop binary-μ-loop
-returns-4 t c =
-    let n = peeked (c .before .before .before .before .before .before .before .before .before .before .before .before .before .before .before .before .before .before .before .before .before .before .before .before .before .before .before .before .before .args .tokens .now) (c .before .before .before .before .before .before .before .before .before .before .before .before .before .before .loop .s .current) _ (c .before .before .before .before .before .before .before .before .before .before .before .before .before .peek .ensures) in
-    let e = turns-found (c .before .before .before .before .before .before .before .before .before .before .before .before .before .before .before .before .before .before .before .before .before .before .before .before .before .before .before .before .before .args .tokens .now) (lower (c .before .before .before .before .before .before .before .before .before .before .before .before .before .before .before .before .before .before .before .before .before .before .before .before .before .before .before .before .before .args .tokens .now) (c .before .before .before .before .before .before .before .before .before .before .before .before .before .before .before .before .before .before .before .before .before .before .before .before .before .before .before .before .before .args .levels)) (c .before .before .before .before .before .before .before .before .before .before .before .before .before .before .before .before .before .before .before .before .before .before .before .before .before .before .before .before .before .args .looser) (c .before .before .before .before .before .before .before .before .before .before .before .before .before .before .loop .left) (c .before .before .before .before .before .before .before .before .before .before .before .before .before .before .loop .s) (c .before .before .before .before .before .before .before .before .before .before .before .before .before .before .loop .errors) (c .before .before .before .before .before .before .before .before .before .before .before .before .before .before .loop .nodes) _ _ n (c .before .before .before .before .before .before .before .before .before .before .before .before .before .before .loop .inv .fuel) (c .before .before .before .before .before .before .before .before .before .before .before .before .before .before .loop .r) (c .before .before .before .before .before .before .before .before .before .before .before .before .rank-of .result) (c .before .before .before .before .before .before .before .before .before .before .before .if1 .left) (c .before .before .before .before .before .before .before .before .before .before .if2 .left) (c .before .before .before .before .before .before .before .before .before .before .before .before .before .before .loop .inv .within) (c .before .before .before .before .before .before .before .before .before .before .before .before .before .before .loop .inv .enough) (sym (c .before .before .before .before .before .before .before .before .before .before .before .before .rank-of .ensures)) in
-    rw (head t (c .before .before .before .before .before .before .before .before .before .before .before .before .before .before), e .same, ← c .before .before .before .before .before .before .before .at-token .ensures) (rw (← c .before .before .before .before .before .before .binary .ensures, c .enum-told2 .given .1))
+returns-3 : (t : ℕ) → binary-lts.Need-returns-3 (claims t) (binary-at t) binary.Post binary-Inv-loop binary-μ-loop
+returns-3 t c =
+    let e = turns (c .before .before .before .before .before .before .before .before .before .before .before .before .before .before .before .before .before .before .before .before .before .before .before .before .before .before .before .before .before .args .tokens .now) (lower (c .before .before .before .before .before .before .before .before .before .before .before .before .before .before .before .before .before .before .before .before .before .before .before .before .before .before .before .before .before .args .tokens .now) (c .before .before .before .before .before .before .before .before .before .before .before .before .before .before .before .before .before .before .before .before .before .before .before .before .before .before .before .before .before .args .levels)) (c .before .before .before .before .before .before .before .before .before .before .before .before .before .before .before .before .before .before .before .before .before .before .before .before .before .before .before .before .before .args .looser) (c .before .before .before .before .before .before .before .before .before .before .before .before .before .before .loop .left) (c .before .before .before .before .before .before .before .before .before .before .before .before .before .before .loop .s) (c .before .before .before .before .before .before .before .before .before .before .before .before .before .before .loop .errors) (c .before .before .before .before .before .before .before .before .before .before .before .before .before .before .loop .nodes) (c .before .before .before .before .before .before .before .before .before .before .before .before .before .before .loop .inv .fuel) (c .before .before .before .before .before .before .before .before .before .before .before .before .before .before .loop .r) (c .before .before .before .before .before .before .before .before .before .before .before .before .before .before .loop .inv .within) in
+    rw (head t (c .before .before .before .before .before .before .before .before .before .before .before .before .before .before), e, ← c .before .before .before .before .before .before .before .before .before .before .before .before .before .turn-at .ensures) (rw (c .before .before .before .before .before .before .before .before .before .before .before .rank .given .1, ← c .before .before .before .before .before .before .before .at-token .ensures, ← c .before .before .before .before .before .before .binary .ensures) (rw (c .enum-told3 .given .1)))
 
 operation-requires : (t : ℕ) → binary-lts.Need-operation-requires (claims t) (binary-at t) binary.Post binary-Inv-loop binary-μ-loop
 operation-requires t c κs = search needs
@@ -160,31 +143,30 @@ make-requires t c κs = search needs
 enum-known-km : (t : ℕ) → binary-lts.Need-enum-known-km (claims t) (binary-at t) binary.Post binary-Inv-loop binary-μ-loop
 enum-known-km t c = search needs
 
-enum-told-3 : (t : ℕ) → binary-lts.Need-enum-told-3 (claims t) (binary-at t) binary.Post binary-Inv-loop binary-μ-loop
-enum-told-3 t c = search needs
+enum-told-4 : (t : ℕ) → binary-lts.Need-enum-told-4 (claims t) (binary-at t) binary.Post binary-Inv-loop binary-μ-loop
+enum-told-4 t c = search needs
 
-same-length-9 : (t : ℕ) → binary-lts.Need-same-length-9 (claims t) (binary-at t) binary.Post binary-Inv-loop binary-μ-loop
-same-length-9 t c = c .before .before .before .before .before .before .before .before .before .before .before .before .before .before .before .binary .kept .1 .0 ∙ c .before .before .before .before .before .before .before .before .before .before .before .before .before .before .before .before .before .before .before .before .before .before .before .loop .inv .errors ∙ c .before .before .before .before .before .before .before .before .before .before .before .before .before .before .before .before .before .before .before .before .before .before .before .before .before .before .before .before .before .before .before .before .unary .kept .1 .0
+same-length-7 : (t : ℕ) → binary-lts.Need-same-length-7 (claims t) (binary-at t) binary.Post binary-Inv-loop binary-μ-loop
+same-length-7 t c = c .before .before .before .before .before .before .before .before .before .before .before .before .before .before .before .binary .kept .1 .0 ∙ c .before .before .before .before .before .before .before .before .before .before .before .before .before .before .before .before .before .before .before .before .before .before .before .loop .inv .errors ∙ c .before .before .before .before .before .before .before .before .before .before .before .before .before .before .before .before .before .before .before .before .before .before .before .before .before .before .before .before .before .before .before .before .unary .kept .1 .0
 
-same-length-10 : (t : ℕ) → binary-lts.Need-same-length-10 (claims t) (binary-at t) binary.Post binary-Inv-loop binary-μ-loop
-same-length-10 t c = c .before .before .before .before .make .kept .0 ∙ c .before .before .before .before .before .before .before .before .before .before .before .before .before .before .before .binary .kept .1 .1 .0 ∙ c .before .before .before .before .before .before .before .before .before .before .before .before .before .before .before .before .before .before .before .before .before .before .before .loop .inv .nodes ∙ c .before .before .before .before .before .before .before .before .before .before .before .before .before .before .before .before .before .before .before .before .before .before .before .before .before .before .before .before .before .before .before .before .unary .kept .1 .1 .0
+same-length-8 : (t : ℕ) → binary-lts.Need-same-length-8 (claims t) (binary-at t) binary.Post binary-Inv-loop binary-μ-loop
+same-length-8 t c = c .before .before .before .before .make .kept .0 ∙ c .before .before .before .before .before .before .before .before .before .before .before .before .before .before .before .binary .kept .1 .1 .0 ∙ c .before .before .before .before .before .before .before .before .before .before .before .before .before .before .before .before .before .before .before .before .before .before .before .loop .inv .nodes ∙ c .before .before .before .before .before .before .before .before .before .before .before .before .before .before .before .before .before .before .before .before .before .before .before .before .before .before .before .before .before .before .before .before .unary .kept .1 .1 .0
 
-returns-5 : (t : ℕ) → binary-lts.Need-returns-5 (claims t) (binary-at t) binary.Post binary-Inv-loop binary-μ-loop
-returns-5 t c =
-    let n = peeked (c .before .before .before .before .before .before .before .before .before .before .before .before .before .before .before .before .before .before .before .before .before .before .before .before .before .before .before .before .before .before .before .before .before .before .before .before .before .before .args .tokens .now) (c .before .before .before .before .before .before .before .before .before .before .before .before .before .before .before .before .before .before .before .before .before .before .before .loop .s .current) _ (c .before .before .before .before .before .before .before .before .before .before .before .before .before .before .before .before .before .before .before .before .before .before .peek .ensures) in
-    let e = turns-found (c .before .before .before .before .before .before .before .before .before .before .before .before .before .before .before .before .before .before .before .before .before .before .before .before .before .before .before .before .before .before .before .before .before .before .before .before .before .before .args .tokens .now) (lower (c .before .before .before .before .before .before .before .before .before .before .before .before .before .before .before .before .before .before .before .before .before .before .before .before .before .before .before .before .before .before .before .before .before .before .before .before .before .before .args .tokens .now) (c .before .before .before .before .before .before .before .before .before .before .before .before .before .before .before .before .before .before .before .before .before .before .before .before .before .before .before .before .before .before .before .before .before .before .before .before .before .before .args .levels)) (c .before .before .before .before .before .before .before .before .before .before .before .before .before .before .before .before .before .before .before .before .before .before .before .before .before .before .before .before .before .before .before .before .before .before .before .before .before .before .args .looser) (c .before .before .before .before .before .before .before .before .before .before .before .before .before .before .before .before .before .before .before .before .before .before .before .loop .left) (c .before .before .before .before .before .before .before .before .before .before .before .before .before .before .before .before .before .before .before .before .before .before .before .loop .s) (c .before .before .before .before .before .before .before .before .before .before .before .before .before .before .before .before .before .before .before .before .before .before .before .loop .errors) (c .before .before .before .before .before .before .before .before .before .before .before .before .before .before .before .before .before .before .before .before .before .before .before .loop .nodes) _ _ n (c .before .before .before .before .before .before .before .before .before .before .before .before .before .before .before .before .before .before .before .before .before .before .before .loop .inv .fuel) (c .before .before .before .before .before .before .before .before .before .before .before .before .before .before .before .before .before .before .before .before .before .before .before .loop .r) (c .before .before .before .before .before .before .before .before .before .before .before .before .before .before .before .before .before .before .before .before .before .rank-of .result) (c .before .before .before .before .before .before .before .before .before .before .before .before .before .before .before .before .before .before .before .before .if1 .left) (c .before .before .before .before .before .before .before .before .before .before .before .before .before .before .before .before .before .before .before .if2 .left) (c .before .before .before .before .before .before .before .before .before .before .before .before .before .before .before .before .before .before .before .before .before .before .before .loop .inv .within) (c .before .before .before .before .before .before .before .before .before .before .before .before .before .before .before .before .before .before .before .before .before .before .before .loop .inv .enough) (sym (c .before .before .before .before .before .before .before .before .before .before .before .before .before .before .before .before .before .before .before .before .before .rank-of .ensures)) in
-    rw (head t (c .before .before .before .before .before .before .before .before .before .before .before .before .before .before .before .before .before .before .before .before .before .before .before), e .same, ← c .before .before .before .before .before .before .before .before .before .before .before .before .before .before .before .before .at-token .ensures) (rw (← c .before .before .before .before .before .before .before .before .before .before .before .before .before .before .before .binary .ensures, c .before .before .before .before .before .before .before .before .before .kh .given .1, ← c .before .before .before .before .before .operation .ensures) (rw (← c .before .before .before .before .make .ensures (c .before .before .before .before .before .before .before .before .before .before .before .before .before .before .before .binary .last .1 .0), c .enum-told3 .given .1)))
+returns-4 : (t : ℕ) → binary-lts.Need-returns-4 (claims t) (binary-at t) binary.Post binary-Inv-loop binary-μ-loop
+returns-4 t c =
+    let e = turns (c .before .before .before .before .before .before .before .before .before .before .before .before .before .before .before .before .before .before .before .before .before .before .before .before .before .before .before .before .before .before .before .before .before .before .before .before .before .before .args .tokens .now) (lower (c .before .before .before .before .before .before .before .before .before .before .before .before .before .before .before .before .before .before .before .before .before .before .before .before .before .before .before .before .before .before .before .before .before .before .before .before .before .before .args .tokens .now) (c .before .before .before .before .before .before .before .before .before .before .before .before .before .before .before .before .before .before .before .before .before .before .before .before .before .before .before .before .before .before .before .before .before .before .before .before .before .before .args .levels)) (c .before .before .before .before .before .before .before .before .before .before .before .before .before .before .before .before .before .before .before .before .before .before .before .before .before .before .before .before .before .before .before .before .before .before .before .before .before .before .args .looser) (c .before .before .before .before .before .before .before .before .before .before .before .before .before .before .before .before .before .before .before .before .before .before .before .loop .left) (c .before .before .before .before .before .before .before .before .before .before .before .before .before .before .before .before .before .before .before .before .before .before .before .loop .s) (c .before .before .before .before .before .before .before .before .before .before .before .before .before .before .before .before .before .before .before .before .before .before .before .loop .errors) (c .before .before .before .before .before .before .before .before .before .before .before .before .before .before .before .before .before .before .before .before .before .before .before .loop .nodes) (c .before .before .before .before .before .before .before .before .before .before .before .before .before .before .before .before .before .before .before .before .before .before .before .loop .inv .fuel) (c .before .before .before .before .before .before .before .before .before .before .before .before .before .before .before .before .before .before .before .before .before .before .before .loop .r) (c .before .before .before .before .before .before .before .before .before .before .before .before .before .before .before .before .before .before .before .before .before .before .before .loop .inv .within) in
+    rw (head t (c .before .before .before .before .before .before .before .before .before .before .before .before .before .before .before .before .before .before .before .before .before .before .before), e, ← c .before .before .before .before .before .before .before .before .before .before .before .before .before .before .before .before .before .before .before .before .before .before .turn-at .ensures) (rw (c .before .before .before .before .before .before .before .before .before .before .before .before .before .before .before .before .before .before .before .before .rank .given .1, ← c .before .before .before .before .before .before .before .before .before .before .before .before .before .before .before .before .at-token .ensures, ← c .before .before .before .before .before .before .before .before .before .before .before .before .before .before .before .binary .ensures) (rw (c .before .before .before .before .before .before .before .before .before .kh .given .1, ← c .before .before .before .before .before .operation .ensures, ← c .before .before .before .before .make .ensures (c .before .before .before .before .before .before .before .before .before .before .before .before .before .before .before .binary .last .1 .0)) (rw (c .enum-told4 .given .1))))
 
 loop-less : (t : ℕ) → binary-lts.Need-loop-less (claims t) (binary-at t) binary.Post binary-Inv-loop binary-μ-loop
-loop-less t c = let g = turn t c in omega arith
+loop-less t c = let g = passes t c in omega arith
 
 loop-again : (t : ℕ) → binary-lts.Need-loop-again (claims t) (binary-at t) binary.Post binary-Inv-loop binary-μ-loop
 loop-again t c =
-    let g = turn t c in
-    let n = peeked (c .before .before .before .before .before .before .before .before .before .before .before .before .before .before .before .before .before .before .before .before .before .before .before .before .before .before .before .before .before .before .before .before .before .before .before .before .before .before .before .before .args .tokens .now) (c .before .before .before .before .before .before .before .before .before .before .before .before .before .before .before .before .before .before .before .before .before .before .before .before .before .loop .s .current) _ (c .before .before .before .before .before .before .before .before .before .before .before .before .before .before .before .before .before .before .before .before .before .before .before .before .peek .ensures) in
-    let e = turns-found (c .before .before .before .before .before .before .before .before .before .before .before .before .before .before .before .before .before .before .before .before .before .before .before .before .before .before .before .before .before .before .before .before .before .before .before .before .before .before .before .before .args .tokens .now) (lower (c .before .before .before .before .before .before .before .before .before .before .before .before .before .before .before .before .before .before .before .before .before .before .before .before .before .before .before .before .before .before .before .before .before .before .before .before .before .before .before .before .args .tokens .now) (c .before .before .before .before .before .before .before .before .before .before .before .before .before .before .before .before .before .before .before .before .before .before .before .before .before .before .before .before .before .before .before .before .before .before .before .before .before .before .before .before .args .levels)) (c .before .before .before .before .before .before .before .before .before .before .before .before .before .before .before .before .before .before .before .before .before .before .before .before .before .before .before .before .before .before .before .before .before .before .before .before .before .before .before .before .args .looser) (c .before .before .before .before .before .before .before .before .before .before .before .before .before .before .before .before .before .before .before .before .before .before .before .before .before .loop .left) (c .before .before .before .before .before .before .before .before .before .before .before .before .before .before .before .before .before .before .before .before .before .before .before .before .before .loop .s) (c .before .before .before .before .before .before .before .before .before .before .before .before .before .before .before .before .before .before .before .before .before .before .before .before .before .loop .errors) (c .before .before .before .before .before .before .before .before .before .before .before .before .before .before .before .before .before .before .before .before .before .before .before .before .before .loop .nodes) _ _ n (c .before .before .before .before .before .before .before .before .before .before .before .before .before .before .before .before .before .before .before .before .before .before .before .before .before .loop .inv .fuel) (c .before .before .before .before .before .before .before .before .before .before .before .before .before .before .before .before .before .before .before .before .before .before .before .before .before .loop .r) (c .before .before .before .before .before .before .before .before .before .before .before .before .before .before .before .before .before .before .before .before .before .before .before .rank-of .result) (c .before .before .before .before .before .before .before .before .before .before .before .before .before .before .before .before .before .before .before .before .before .before .if1 .left) (c .before .before .before .before .before .before .before .before .before .before .before .before .before .before .before .before .before .before .before .before .before .if2 .left) (c .before .before .before .before .before .before .before .before .before .before .before .before .before .before .before .before .before .before .before .before .before .before .before .before .before .loop .inv .within) (c .before .before .before .before .before .before .before .before .before .before .before .before .before .before .before .before .before .before .before .before .before .before .before .before .before .loop .inv .enough) (sym (c .before .before .before .before .before .before .before .before .before .before .before .before .before .before .before .before .before .before .before .before .before .before .before .rank-of .ensures)) in
-    let f : suc (e .fuelled - 1) ≡ e .fuelled = omega (arith, e .enough) in
-    record { fuel = e .fuelled - 1; enough = omega (arith, e .enough); within = omega (arith, c .before .before .before .before .before .before .before .before .before .before .before .before .before .before .before .before .before .before .before .before .before .if2 .left, c .before .before .before .before .before .before .before .before .before .before .before .before .before .before .before .before .before .before .before .before .before .before .before .before .before .loop .inv .within); same = rw f (again t c ∙ c .before .before .before .before .before .before .before .before .before .before .before .before .before .before .before .before .before .before .before .before .before .before .before .before .before .loop .inv .same); errors = c .before .before .before .before .before .before .before .before .before .before .before .before .before .before .before .before .before .binary .kept .1 .0 ∙ c .before .before .before .before .before .before .before .before .before .before .before .before .before .before .before .before .before .before .before .before .before .before .before .before .before .loop .inv .errors; nodes = c .before .before .before .before .before .before .make .kept .0 ∙ c .before .before .before .before .before .before .before .before .before .before .before .before .before .before .before .before .before .binary .kept .1 .1 .0 ∙ c .before .before .before .before .before .before .before .before .before .before .before .before .before .before .before .before .before .before .before .before .before .before .before .before .before .loop .inv .nodes }
+    let g = passes t c in
+    let k = taken _ _ _ _ _ _ (c .before .before .before .before .before .before .before .before .before .before .before .before .before .before .before .before .before .before .before .before .before .before .before .before .before .loop .inv .within) (sym (c .before .before .before .before .before .before .before .before .before .before .before .before .before .before .before .before .before .before .before .before .before .before .before .before .turn-at .ensures) ∙ c .before .before .before .before .before .before .before .before .before .before .before .before .before .before .before .before .before .before .before .before .before .before .rank .given .1) in
+    let e = spare-enough (c .before .before .before .before .before .before .before .before .before .before .before .before .before .before .before .before .before .before .before .before .before .before .before .before .before .before .before .before .before .before .before .before .before .before .before .before .before .before .before .before .args .tokens .now) (c .before .before .before .before .before .before .before .before .before .before .before .before .before .before .before .before .before .before .before .before .before .before .before .before .before .loop .s .current) (c .before .before .before .before .before .before .before .before .before .before .before .before .before .before .before .before .before .before .before .before .before .before .before .before .before .loop .inv .fuel) (c .before .before .before .before .before .before .before .before .before .before .before .before .before .before .before .before .before .before .before .before .before .before .before .before .before .loop .r - c .before .before .before .before .before .before .before .before .before .before .before .before .before .before .before .before .before .before .before .before .before .before .rank .given .0 .0) (c .before .before .before .before .before .before .before .before .before .before .before .before .before .before .before .before .before .before .before .before .before .before .before .before .before .loop .inv .enough) in
+    let f : suc (spare (c .before .before .before .before .before .before .before .before .before .before .before .before .before .before .before .before .before .before .before .before .before .before .before .before .before .before .before .before .before .before .before .before .before .before .before .before .before .before .before .before .args .tokens .now) (c .before .before .before .before .before .before .before .before .before .before .before .before .before .before .before .before .before .before .before .before .before .before .before .before .before .loop .inv .fuel) (c .before .before .before .before .before .before .before .before .before .before .before .before .before .before .before .before .before .before .before .before .before .before .before .before .before .loop .r - c .before .before .before .before .before .before .before .before .before .before .before .before .before .before .before .before .before .before .before .before .before .before .rank .given .0 .0) - 1) ≡ spare (c .before .before .before .before .before .before .before .before .before .before .before .before .before .before .before .before .before .before .before .before .before .before .before .before .before .before .before .before .before .before .before .before .before .before .before .before .before .before .before .before .args .tokens .now) (c .before .before .before .before .before .before .before .before .before .before .before .before .before .before .before .before .before .before .before .before .before .before .before .before .before .loop .inv .fuel) (c .before .before .before .before .before .before .before .before .before .before .before .before .before .before .before .before .before .before .before .before .before .before .before .before .before .loop .r - c .before .before .before .before .before .before .before .before .before .before .before .before .before .before .before .before .before .before .before .before .before .before .rank .given .0 .0) = omega (arith, e) in
+    record { fuel = spare (c .before .before .before .before .before .before .before .before .before .before .before .before .before .before .before .before .before .before .before .before .before .before .before .before .before .before .before .before .before .before .before .before .before .before .before .before .before .before .before .before .args .tokens .now) (c .before .before .before .before .before .before .before .before .before .before .before .before .before .before .before .before .before .before .before .before .before .before .before .before .before .loop .inv .fuel) (c .before .before .before .before .before .before .before .before .before .before .before .before .before .before .before .before .before .before .before .before .before .before .before .before .before .loop .r - c .before .before .before .before .before .before .before .before .before .before .before .before .before .before .before .before .before .before .before .before .before .before .rank .given .0 .0) - 1; enough = omega (arith, e); within = omega (arith, k .within, c .before .before .before .before .before .before .before .before .before .before .before .before .before .before .before .before .before .before .before .before .before .before .before .before .before .loop .inv .within); same = rw f (again t c ∙ c .before .before .before .before .before .before .before .before .before .before .before .before .before .before .before .before .before .before .before .before .before .before .before .before .before .loop .inv .same); errors = c .before .before .before .before .before .before .before .before .before .before .before .before .before .before .before .before .before .binary .kept .1 .0 ∙ c .before .before .before .before .before .before .before .before .before .before .before .before .before .before .before .before .before .before .before .before .before .before .before .before .before .loop .inv .errors; nodes = c .before .before .before .before .before .before .make .kept .0 ∙ c .before .before .before .before .before .before .before .before .before .before .before .before .before .before .before .before .before .binary .kept .1 .1 .0 ∙ c .before .before .before .before .before .before .before .before .before .before .before .before .before .before .before .before .before .before .before .before .before .before .before .before .before .loop .inv .nodes }
 
 pub binary-ok : {M : Type 1} (t : ℕ) → binary-lts.Closed (claims t) (binary-at t) binary.Post M
 binary-ok t = binary-lts.spec (claims t) (binary-at t) binary.Post
@@ -197,29 +179,26 @@ binary-ok t = binary-lts.spec (claims t) (binary-at t) binary.Post
     (same-length-2 t)
     (returns t)
     (loop-holds t)
-    (peek-requires t)
-    (rank-of-requires t)
+    (turn-at-requires t)
+    (enum-known-rank t)
+    (enum-told-2 t)
     (found-requires t)
     (same-length-3 t)
     (same-length-4 t)
     (returns-2 t)
-    (found-requires-2 t)
-    (same-length-5 t)
-    (same-length-6 t)
-    (returns-3 t)
     (at-token-requires t)
     (binary-requires t)
     (enum-known-kh t)
-    (enum-told-2 t)
-    (same-length-7 t)
-    (same-length-8 t)
-    (returns-4 t)
+    (enum-told-3 t)
+    (same-length-5 t)
+    (same-length-6 t)
+    (returns-3 t)
     (operation-requires t)
     (make-requires t)
     (enum-known-km t)
-    (enum-told-3 t)
-    (same-length-9 t)
-    (same-length-10 t)
-    (returns-5 t)
+    (enum-told-4 t)
+    (same-length-7 t)
+    (same-length-8 t)
+    (returns-4 t)
     (loop-less t)
     (loop-again t)

@@ -1,0 +1,3 @@
+pub mod Same
+pub mod Trials
+pub mod Pairs

@@ -1,0 +1,32 @@
+-- How a pair of scripts is tried on the definition of the reading.
+use Prim.Native.Nat.{ℕ, _*_}
+use mathlib.Core.Bool.{Bool}
+use mathlib.Core.List.{List, [], _∷_, _++_}
+use lib.ListN.{replicate, take}
+use Rattle.token.specs.Keyword.{same}
+use Rattle.text.proofs.Codes.{codes}
+use Rattle.records.specs.Table.{tokenWidth, errorWidth, nodeWidth}
+use Rattle.reader.specs.Reading.{Reading, reading}
+use Rattle.blackout.proofs.Trials.{Pair, pair}
+
+-- what demand 3 says is the same: the answer, and every word of the kept records
+abbrev pub kept : Reading → List ℕ
+kept r =
+    r .outcome ∷ r .tokenCount ∷ r .errorCount ∷ r .nodeCount ∷ r .first ∷
+    take (tokenWidth * r .tokenCount) (r .tokens) ++
+    take (errorWidth * r .errorCount) (r .errors) ++
+    take (nodeWidth * r .nodeCount) (r .nodes)
+
+-- a reading into tables that are large enough here, and held the word w
+abbrev pub readInto : ℕ → List ℕ → List ℕ
+readInto w s = kept (reading s (replicate (tokenWidth * 24) w) (replicate (errorWidth * 12) w) (replicate (nodeWidth * 24) w))
+
+-- whether pairs are read alike; the tables of the two readings held other words
+abbrev pub answers : List Pair → List Bool
+answers [] = []
+answers (pair s r p q ∷ cs) = same (readInto 7 (codes s)) (readInto 8 (codes r)) ∷ answers cs
+
+-- what the definition has to say
+abbrev pub expected : List Pair → List Bool
+expected [] = []
+expected (pair s r p q ∷ cs) = q ∷ expected cs

@@ -1,0 +1,112 @@
+-- The cases of the two calls, in the form that the code's facts have. Assumes nothing.
+use mathlib.Core.Path.{_≡_, refl, sym, ap, _∙_}
+use mathlib.Core.Bool.{Bool, true, false}
+use mathlib.Core.List.{List}
+use Prim.Native.Nat.{ℕ}
+use lib.Dec.{eqb}
+use borrow.Author.Tests.{eq-eqb, ne-eqb}
+use Rattle.records.specs.Table.{linked}
+use Rattle.lexer.specs.declared.Scanned.{Scanned}
+use Rattle.parser.specs.declared.State as state
+use Rattle.parser.specs.declared.Found.{Found}
+use Rattle.parser.specs.declared.Got.{Got}
+use Rattle.parser.specs.declared.Got.the-variants.{Node, Stop}
+use Rattle.parser.specs.Tokens.{kindAt}
+use Rattle.parser.specs.Tables.{Reply, reply}
+use Rattle.parser.specs.Grammar.{firstOf}
+use Rattle.parser.specs.Whole.{topLevel}
+use Rattle.reader.specs.Entry.{entered, Enters}
+use Rattle.reader.proofs.Entry.{stands-as}
+use Rattle.host.specs.declared.Parser.{Parser}
+use Rattle.host.specs.Fits.{fitsIn}
+use Rattle.steps.specs.declared.Stepped.{Stepped}
+use Rattle.steps.specs.Steps.{Called, left, leaving, markedAs, final, pickCall, restOf, fresh, begunAfter, begun, refusedAs, stateOf, behind, stoppedAt, afterOne, oneOf, nextOf}
+
+-- the four parts of a call
+pub parts : (c d : Called) → c ≡ d → (c .stepped ≡ d .stepped) × (c .tokens ≡ d .tokens) × (c .errors ≡ d .errors) × (c .nodes ≡ d .nodes)
+parts c d e = (ap (λ (x : Called). x .stepped) e, ap (λ (x : Called). x .tokens) e, ap (λ (x : Called). x .errors) e, ap (λ (x : Called). x .nodes) e)
+
+-- ---- at a token
+module _ (T : List ℕ) (p : Parser) (E N : List ℕ) (k : ℕ) (is : k ≡ kindAt T (p .current)) where
+  at-eof : k ≡ 0 → eqb (kindAt T (p .current)) 0 ≡ true
+  at-eof z = ap (λ (i : ℕ). eqb i 0) (sym is) ∙ eq-eqb k 0 z
+
+  before-eof : (k ≡ 0 → ⊥) → eqb (kindAt T (p .current)) 0 ≡ false
+  before-eof z = ap (λ (i : ℕ). eqb i 0) (sym is) ∙ ne-eqb k 0 z
+
+  -- nothing is left to be read
+  pub rest-ends : k ≡ 0 → restOf T p E N ≡ final 0 p T E N
+  unfolding restOf
+  rest-ends z = ap (λ (b : Bool). pickCall b (λ _. final 0 p T E N) λ _. left (leaving (markedAs 0 19 p)) T E N) (at-eof z)
+
+  -- a token before EOF is left
+  pub rest-stays : (k ≡ 0 → ⊥) → restOf T p E N ≡ left (leaving (markedAs 0 19 p)) T E N
+  unfolding restOf
+  rest-stays z = ap (λ (b : Bool). pickCall b (λ _. final 0 p T E N) λ _. left (leaving (markedAs 0 19 p)) T E N) (before-eof z)
+
+  -- there is no statement at EOF
+  pub one-ends : k ≡ 0 → oneOf T p E N ≡ final 0 p T E N
+  unfolding oneOf
+  one-ends z = ap (λ (b : Bool). pickCall b (λ _. final 0 p T E N) λ _. afterOne T p (topLevel T (stateOf p) E N)) (at-eof z)
+
+  module _ (z : k ≡ 0 → ⊥) (q : state.State) (g : Got) (E′ N′ : List ℕ) (e : reply q g E′ N′ ≡ topLevel T (stateOf p) E N) where
+    -- a statement was read, and what came of it decides
+    one-came : oneOf T p E N ≡ afterOne T p (reply q g E′ N′)
+    unfolding oneOf
+    one-came = ap (λ (b : Bool). pickCall b (λ _. final 0 p T E N) λ _. afterOne T p (topLevel T (stateOf p) E N)) (before-eof z) ∙ ap (λ (r : Reply). afterOne T p r) (sym e)
+
+    -- it stopped the reading
+    pub one-stops : (o : ℕ) → g ≡ Stop o → oneOf T p E N ≡ final o (stoppedAt p (q .errors)) T E′ N′
+    one-stops o s = one-came ∙ ap (λ (g : Got). afterOne T p (reply q g E′ N′)) s
+
+    -- it is linked behind the last one
+    pub one-more : (n : Found) → g ≡ Node n → oneOf T p E N ≡ restOf T (behind p q (n .node)) E′ (linked N′ (p .last) (n .node))
+    one-more n s = one-came ∙ ap (λ (g : Got). afterOne T p (reply q g E′ N′)) s
+
+    -- the same with what the code has for the first statement and the nodes
+    pub one-linked : (n : Found) → g ≡ Node n → (f : ℕ) → f ≡ firstOf (p .first) (n .node) → (N″ : List ℕ) → N″ ≡ linked N′ (p .last) (n .node)
+        → restOf T (record { current = q .current; loops = q .loops; tokens = p .tokens; errors = q .errors; nodes = q .nodes; first = f; last = n .node; ended = 0; outcome = 19 }) E′ N″ ≡ oneOf T p E N
+    one-linked n s f h N″ l =
+        (λ i. restOf T (record { current = q .current; loops = q .loops; tokens = p .tokens; errors = q .errors; nodes = q .nodes; first = h i; last = n .node; ended = 0; outcome = 19 }) E′ (l i)) ∙ sym (one-more n s)
+
+-- ---- after lexing
+module _ (s t e n T E N : List ℕ) (d : Scanned) (l : Enters (entered s t e n) d T E N) where
+  -- by the test
+  begun-by : (b : Bool) → eqb (d .outcome) 0 ≡ b
+      → pickCall b (λ _. restOf T (fresh (d .tokens) (d .errors)) E N) (λ _. left (leaving (markedAs 1 (d .outcome) (fresh (d .tokens) (d .errors)))) T E N) ≡ begun s t e n
+  unfolding begun
+  begun-by b h =
+      ap (λ (x : Bool). pickCall x (λ _. restOf T (fresh (d .tokens) (d .errors)) E N) λ _. left (leaving (markedAs 1 (d .outcome) (fresh (d .tokens) (d .errors)))) T E N) (sym h)
+      ∙ ap begunAfter (stands-as (entered s t e n) d T E N l)
+
+  -- what was lexed is read
+  pub begun-reads : d .outcome ≡ 0 → restOf T (fresh (d .tokens) (d .errors)) E N ≡ begun s t e n
+  begun-reads z = begun-by true (eq-eqb (d .outcome) 0 z)
+
+  -- its outcome is the final answer
+  pub begun-ends : (d .outcome ≡ 0 → ⊥) → (m : Stepped) → m ≡ leaving (markedAs 1 (d .outcome) (fresh (d .tokens) (d .errors))) → left m T E N ≡ begun s t e n
+  begun-ends z m h = ap (λ (x : Stepped). left x T E N) h ∙ begun-by false (ne-eqb (d .outcome) 0 z)
+
+-- ---- read
+module _ (T E N : List ℕ) (p : Parser) where
+  -- whether the final answer was given
+  abbrev by : Bool → Called
+  by b = pickCall b (λ _. pickCall (fitsIn T E N p) (λ _. oneOf T p E N) λ _. left (refusedAs p) T E N) λ _. left (leaving p) T E N
+
+  -- the final answer once more
+  pub next-again : (p .ended ≡ 0 → ⊥) → left (leaving p) T E N ≡ nextOf T E N p
+  unfolding nextOf
+  next-again z = ap by (sym (ne-eqb (p .ended) 0 z))
+
+  module _ (z : p .ended ≡ 0) (b : Bool) (is : b ≡ fitsIn T E N p) where
+    next-tests : pickCall b (λ _. oneOf T p E N) (λ _. left (refusedAs p) T E N) ≡ nextOf T E N p
+    unfolding nextOf
+    next-tests = ap (λ (x : Bool). pickCall x (λ _. oneOf T p E N) λ _. left (refusedAs p) T E N) is ∙ ap by (sym (eq-eqb (p .ended) 0 z))
+
+    -- 18
+    pub next-refuses : b ≡ false → left (refusedAs p) T E N ≡ nextOf T E N p
+    next-refuses h = ap (λ (x : Bool). pickCall x (λ _. oneOf T p E N) λ _. left (refusedAs p) T E N) (sym h) ∙ next-tests
+
+    -- one statement
+    pub next-goes-on : b ≡ true → oneOf T p E N ≡ nextOf T E N p
+    next-goes-on h = ap (λ (x : Bool). pickCall x (λ _. oneOf T p E N) λ _. left (refusedAs p) T E N) (sym h) ∙ next-tests

@@ -1,0 +1,66 @@
+-- `steps::step` meets its contract: the final answer, the test, or a statement. Assumes nothing.
+use mathlib.Core.Path.{_∙_}
+use borrow.Author.Needs.{needs}
+use Rattle.steps.specs.Steps.{left}
+use Rattle.steps.proofs.Cases.{parts, next-again, next-refuses, next-goes-on}
+use Rattle.steps.proofs.step.Statement.{statement}
+use Rattle.steps.proofs.step.Tie as tie
+
+fits-requires : tie.Need-fits-requires
+fits-requires c κs = search needs
+
+one-requires : tie.Need-one-requires
+one-requires c κs = search needs
+
+same-length : tie.Need-same-length
+same-length c = search needs
+
+same-length-2 : tie.Need-same-length-2
+same-length-2 c = search needs
+
+same-length-3 : tie.Need-same-length-3
+same-length-3 c = search needs
+
+returns : tie.Need-returns
+returns c =
+    let a = c .before .before .before .before .before .before .before .before .before .before .before .before .before .before .before .before .before .before .before .args in
+    parts _ _ (c .before .before .before .before .one .ensures ∙ next-goes-on (a .tokens .now) (a .errors .now) (a .nodes .now) (a .p) (c .before .before .before .before .before .before .before .before .before .before .before .before .before .if1 .taken) _ (c .before .before .before .before .before .before .before .before .before .fits2 .ensures) (c .before .before .before .before .before .before .before .before .if2 .taken))
+
+same-length-4 : tie.Need-same-length-4
+same-length-4 c = search needs
+
+same-length-5 : tie.Need-same-length-5
+same-length-5 c = search needs
+
+same-length-6 : tie.Need-same-length-6
+same-length-6 c = search needs
+
+returns-2 : tie.Need-returns-2
+returns-2 c =
+    let a = c .before .before .before .before .before .before .before .before .before .before .before .args in
+    parts _ _ (next-refuses (a .tokens .now) (a .errors .now) (a .nodes .now) (a .p) (c .before .before .before .before .before .if1 .taken) _ (c .before .fits2 .ensures) (c .if2 .left))
+
+leave-requires : tie.Need-leave-requires
+leave-requires c κs = search needs
+
+returns-3 : tie.Need-returns-3
+returns-3 c =
+    let a = c .before .before .before .before .before .before .before .args in
+    parts _ _ ((λ i. left (c .leave .ensures i) (a .tokens .now) (a .errors .now) (a .nodes .now)) ∙ next-again (a .tokens .now) (a .errors .now) (a .nodes .now) (a .p) (c .before .if1 .left))
+
+pub step-spec : {M : Type 1} → statement M
+step-spec =
+    tie.close
+    (tie.spec
+    fits-requires
+    one-requires
+    same-length
+    same-length-2
+    same-length-3
+    returns
+    same-length-4
+    same-length-5
+    same-length-6
+    returns-2
+    leave-requires
+    returns-3)

@@ -1,0 +1,113 @@
+-- One statement at a time, over a parser that the host keeps and lends: what `begin` and `read` give for any parser, any source and any tables.
+use Prim.Native.Nat.{ℕ, zero, suc}
+use mathlib.Core.Bool.{Bool, true, false}
+use mathlib.Core.List.{List}
+use lib.Dec.{eqb}
+use Rattle.token.specs.Kind.{EOF}
+use Rattle.records.specs.Table.{linked, zeroed, nodeWidth}
+use Rattle.records.specs.Outcomes as outcomes
+use Rattle.parser.specs.declared.State as state
+use Rattle.parser.specs.declared.Got.the-variants.{Node, Stop}
+use Rattle.parser.specs.Tokens.{kindAt}
+use Rattle.parser.specs.Tables.{Reply, reply}
+use Rattle.parser.specs.Grammar.{firstOf}
+use Rattle.parser.specs.Whole.{topLevel}
+use Rattle.reader.specs.declared.Answer.{Answer}
+use Rattle.reader.specs.Entry.{Entered, entered}
+use Rattle.host.specs.declared.Parser.{Parser}
+use Rattle.host.specs.Fits.{fitsIn}
+use Rattle.steps.specs.declared.Stepped.{Stepped}
+
+-- what a call gives: the parser it leaves and its answer, and the three tables it leaves
+pub record Called : Type 0 where
+  pub stepped : Stepped
+  pub tokens : List ℕ
+  pub errors : List ℕ
+  pub nodes : List ℕ
+
+-- a call that gives this and leaves the tables T, E and N
+abbrev pub left : Stepped → List ℕ → List ℕ → List ℕ → Called
+left r T E N = record { stepped = r; tokens = T; errors = E; nodes = N }
+
+-- the answer that a parser holds: outcome, counts, first statement
+abbrev pub held : Parser → Answer
+held p = record { outcome = p .outcome; tokens = p .tokens; errors = p .errors; nodes = p .nodes; first = p .first }
+
+-- a call leaves the parser p and answers what p holds
+abbrev pub leaving : Parser → Stepped
+leaving p = record { parser = p; answer = held p }
+
+-- the parser with another mark: whether the final answer is given, and the outcome
+abbrev pub markedAs : ℕ → ℕ → Parser → Parser
+markedAs ended outcome p = record { current = p .current; loops = p .loops; tokens = p .tokens; errors = p .errors; nodes = p .nodes; first = p .first; last = p .last; ended = ended; outcome = outcome }
+
+-- the final answer: every word of the node table past the kept nodes is 0
+abbrev pub final : ℕ → Parser → List ℕ → List ℕ → List ℕ → Called
+final outcome p T E N = left (leaving (markedAs 1 outcome p)) T E (zeroed nodeWidth N (p .nodes))
+
+-- the first where the test holds, else the second
+abbrev pub pickCall : Bool → (Unit {0} → Called) → (Unit {0} → Called) → Called
+pickCall true a b = a tt
+pickCall false a b = b tt
+
+-- 19 where a token before EOF is left to be read, else the final answer 0
+unfoldable pub restOf : List ℕ → Parser → List ℕ → List ℕ → Called
+restOf T p E N = pickCall (eqb (kindAt T (p .current)) EOF) (λ _. final outcomes.ended p T E N) λ _. left (leaving (markedAs 0 outcomes.goesOn p)) T E N
+
+-- ---- begin
+-- the parser before the first statement, with what was lexed
+abbrev pub fresh : ℕ → ℕ → Parser
+fresh tokens errors = record { current = 0; loops = 0; tokens = tokens; errors = errors; nodes = 0; first = 0; last = 0; ended = 0; outcome = outcomes.goesOn }
+
+-- what stands when lexing is over is read, a statement at a time; or its outcome is the final answer
+abbrev pub begunAfter : Entered → Called
+begunAfter d =
+    pickCall (eqb (d .outcome) outcomes.ended) (λ _. restOf (d .tokens) (fresh (d .tokenCount) (d .errorCount)) (d .errors) (d .nodes)) λ _.
+    left (leaving (markedAs 1 (d .outcome) (fresh (d .tokenCount) (d .errorCount)))) (d .tokens) (d .errors) (d .nodes)
+
+-- `begin`, of any source into tables t, e and n: what the parser was does not matter
+unfoldable pub begun : List ℕ → List ℕ → List ℕ → List ℕ → Called
+begun s t e n = begunAfter (entered s t e n)
+
+-- ---- read
+-- 18, with counts and first statement 0, and nothing changed
+abbrev pub refusedAs : Parser → Stepped
+refusedAs p = record { parser = p; answer = record { outcome = outcomes.doesNotFit; tokens = 0; errors = 0; nodes = 0; first = 0 } }
+
+-- the state in which the parser reads
+abbrev pub stateOf : Parser → state.State
+stateOf p = record { current = p .current; errors = p .errors; nodes = p .nodes; loops = p .loops }
+
+-- the parser behind a statement n, in the state q
+abbrev pub behind : Parser → state.State → ℕ → Parser
+behind p q n = record { current = q .current; loops = q .loops; tokens = p .tokens; errors = q .errors; nodes = q .nodes; first = firstOf (p .first) n; last = n; ended = 0; outcome = outcomes.goesOn }
+
+-- the parser at a statement that stopped the reading: none of its nodes is kept, but its errors are
+abbrev pub stoppedAt : Parser → ℕ → Parser
+stoppedAt p errors = record { current = p .current; loops = p .loops; tokens = p .tokens; errors = errors; nodes = p .nodes; first = p .first; last = p .last; ended = 0; outcome = outcomes.goesOn }
+
+-- by what came of a statement: it is linked behind the last one; or it stopped the reading
+abbrev pub afterOne : List ℕ → Parser → Reply → Called
+afterOne T p (reply q (Node f) E N) = restOf T (behind p q (f .node)) E (linked N (p .last) (f .node))
+afterOne T p (reply q (Stop o) E N) = final o (stoppedAt p (q .errors)) T E N
+
+-- one top-level statement is read; at EOF there is none, and the reading is at its end
+unfoldable pub oneOf : List ℕ → Parser → List ℕ → List ℕ → Called
+oneOf T p E N = pickCall (eqb (kindAt T (p .current)) EOF) (λ _. final outcomes.ended p T E N) λ _. afterOne T p (topLevel T (stateOf p) E N)
+
+-- `read`, of any parser and any tables: the final answer once more, where it was given; else 18 or one statement
+unfoldable pub nextOf : List ℕ → List ℕ → List ℕ → Parser → Called
+nextOf T E N p =
+    pickCall (eqb (p .ended) 0)
+    (λ _. pickCall (fitsIn T E N p) (λ _. oneOf T p E N) λ _. left (refusedAs p) T E N) λ _.
+    left (leaving p) T E N
+
+-- ---- calls one after the other
+-- a read that is lent the parser and the tables as the last call left them
+abbrev pub next : Called → Called
+next c = nextOf (c .tokens) (c .errors) (c .nodes) (c .stepped .parser)
+
+-- so many reads
+unfoldable pub nexts : ℕ → Called → Called
+nexts zero c = c
+nexts (suc k) c = next (nexts k c)

@@ -1,0 +1,188 @@
+// One statement at a time, over a parser by value: `begin` and `read` for `pair`, which is lent one.
+ghost use mathlib.Core.Path.{_≡_};
+ghost use mathlib.Core.List.{List};
+ghost use Prim.Native.Nat.{ℕ};
+ghost use Rattle.steps.specs.Steps.{left, leaving, markedAs, final, restOf, begun, oneOf, nextOf};
+use host::Parser;
+use parser::Got;
+use reader::Answer;
+use records::Outcome;
+use token::Token;
+
+// A call's answer, with the parser beside it.
+#[repr(C)]
+pub struct Stepped {
+    pub parser: Parser,
+    pub answer: Answer,
+}
+
+// The parser as it is, and the answer that it holds.
+fn leave(p: Parser) -> Stepped
+    ensures { λ r. ⌜ r ≡ leaving p ⌝ }
+{
+    Stepped {
+        parser: p,
+        answer: Answer {
+            outcome: p.outcome,
+            tokens: p.tokens,
+            errors: p.errors,
+            nodes: p.nodes,
+            first: p.first,
+        },
+    }
+}
+
+// The same with another mark.
+fn mark(p: Parser, ended: u32, outcome: u32) -> Stepped
+    ensures { λ r. ⌜ r ≡ leaving (markedAs ended outcome p) ⌝ }
+{
+    leave(Parser {
+        current: p.current,
+        loops: p.loops,
+        tokens: p.tokens,
+        errors: p.errors,
+        nodes: p.nodes,
+        first: p.first,
+        last: p.last,
+        ended,
+        outcome,
+    })
+}
+
+// The final answer.
+fn finish(nodes: &mut [u32], p: Parser, outcome: u32) -> Stepped
+    ensures { λ r. ⌜ ((T E : List ℕ) → left r T E (now (nodes .exit)) ≡ final outcome p T E (now (nodes .entry))) ⌝ }
+{
+    let kept = p.nodes;
+    records::zero_rest(nodes, kept);
+    mark(p, 1, outcome)
+}
+
+// A token before EOF is left to be read, or the reading is at its end.
+fn rest(tokens: &[u32], nodes: &mut [u32], p: Parser) -> Stepped
+    ensures { λ r. ⌜ ((E : List ℕ) → left r (now (tokens .entry)) E (now (nodes .exit)) ≡ restOf (now (tokens .entry)) p E (now (nodes .entry))) ⌝ }
+{
+    let at = p.current;
+    if parser::kind_at(tokens, at) == Token::EOF {
+        return finish(nodes, p, Outcome::ENDED);
+    }
+    mark(p, 0, Outcome::GOES_ON)
+}
+
+// One top-level statement, by the reader that `parse` uses too.
+fn one(tokens: &[u32], errors: &mut [u32], nodes: &mut [u32], p: Parser) -> Stepped
+    ensures { λ r. ⌜ left r (now (tokens .entry)) (now (errors .exit)) (now (nodes .exit)) ≡ oneOf (now (tokens .entry)) p (now (errors .entry)) (now (nodes .entry)) ⌝ }
+{
+    let at = p.current;
+    if parser::kind_at(tokens, at) == Token::EOF {
+        return finish(nodes, p, Outcome::ENDED);
+    }
+    let s = parser::State {
+        current: p.current,
+        errors: p.errors,
+        nodes: p.nodes,
+        loops: p.loops,
+    };
+    let g = statements::top_level(tokens, errors, nodes, s);
+    let k = g.got;
+    let u = g.p;
+    match k {
+        Got::Stop(o) => finish(
+            nodes,
+            Parser {
+                current: p.current,
+                loops: p.loops,
+                tokens: p.tokens,
+                errors: u.errors,
+                nodes: p.nodes,
+                first: p.first,
+                last: p.last,
+                ended: 0,
+                outcome: Outcome::GOES_ON,
+            },
+            o,
+        ),
+        Got::Node(n) => {
+            let last = p.last;
+            records::link(nodes, last, n.node);
+            let first = parser::first_of(p.first, n.node);
+            rest(
+                tokens,
+                nodes,
+                Parser {
+                    current: u.current,
+                    loops: u.loops,
+                    tokens: p.tokens,
+                    errors: u.errors,
+                    nodes: u.nodes,
+                    first,
+                    last: n.node,
+                    ended: 0,
+                    outcome: Outcome::GOES_ON,
+                },
+            )
+        }
+    }
+}
+
+// The core of `begin`: the source is lexed, whatever the parser was.
+pub fn start(
+    source: &[u8],
+    tokens: &mut [u32],
+    errors: &mut [u32],
+    nodes: &mut [u32],
+    _p: Parser,
+) -> Stepped
+    ensures { λ r. ⌜ (r ≡ begun (now (source .entry)) (now (tokens .entry)) (now (errors .entry)) (now (nodes .entry)) .stepped)
+        × (now (tokens .exit) ≡ begun (now (source .entry)) (now (tokens .entry)) (now (errors .entry)) (now (nodes .entry)) .tokens)
+        × (now (errors .exit) ≡ begun (now (source .entry)) (now (tokens .entry)) (now (errors .entry)) (now (nodes .entry)) .errors)
+        × (now (nodes .exit) ≡ begun (now (source .entry)) (now (tokens .entry)) (now (errors .entry)) (now (nodes .entry)) .nodes) ⌝ }
+{
+    let d = reader::enter(source, tokens, errors, nodes);
+    let p = Parser {
+        current: 0,
+        loops: 0,
+        tokens: d.tokens,
+        errors: d.errors,
+        nodes: 0,
+        first: 0,
+        last: 0,
+        ended: 0,
+        outcome: Outcome::GOES_ON,
+    };
+    if d.outcome == Outcome::ENDED {
+        return rest(tokens, nodes, p);
+    }
+    mark(p, 1, d.outcome)
+}
+
+// The core of `read`: the final answer once more, 18, or one statement. The source is not looked at again.
+pub fn step(
+    _source: &[u8],
+    tokens: &mut [u32],
+    errors: &mut [u32],
+    nodes: &mut [u32],
+    p: Parser,
+) -> Stepped
+    ensures { λ r. ⌜ (r ≡ nextOf (now (tokens .entry)) (now (errors .entry)) (now (nodes .entry)) p .stepped)
+        × (now (tokens .exit) ≡ nextOf (now (tokens .entry)) (now (errors .entry)) (now (nodes .entry)) p .tokens)
+        × (now (errors .exit) ≡ nextOf (now (tokens .entry)) (now (errors .entry)) (now (nodes .entry)) p .errors)
+        × (now (nodes .exit) ≡ nextOf (now (tokens .entry)) (now (errors .entry)) (now (nodes .entry)) p .nodes) ⌝ }
+{
+    if p.ended == 0 {
+        if host::fits(tokens, errors, nodes, p) {
+            return one(tokens, errors, nodes, p);
+        }
+        return Stepped {
+            parser: p,
+            answer: Answer {
+                outcome: Outcome::DOES_NOT_FIT,
+                tokens: 0,
+                errors: 0,
+                nodes: 0,
+                first: 0,
+            },
+        };
+    }
+    leave(p)
+}
