@@ -1,6 +1,11 @@
-// The parser that a host keeps between two calls, and whether it goes with the tables that are lent with it.
+// The parser that a host keeps between two calls: what becomes of it, and whether it goes with the tables that are lent with it.
 ghost use mathlib.Core.Path.{_≡_};
+ghost use lib.Dec.{eqb};
+ghost use Rattle.records.specs.Outcomes.{goesOn};
+ghost use Rattle.host.specs.Kept.{fresh, markedAs, behind, stoppedAt};
 ghost use Rattle.host.specs.Fits.{noEof, onlyEof, fitsIn};
+use parser::State;
+use records::Outcome;
 use token::Token;
 
 // What the host keeps between two calls: the cursor, the open loops, how many tokens, errors and nodes stand in the tables, the first and the last
@@ -16,6 +21,72 @@ pub struct Parser {
     pub last: u32,
     pub ended: u32,
     pub outcome: u32,
+}
+
+// A word that is only carried along is named by `fresh` alone.
+impl Parser {
+    // Before the first statement, with what was lexed.
+    pub fn fresh(tokens: u32, errors: u32) -> Self
+        ensures { λ r. ⌜ r ≡ fresh tokens errors ⌝ }
+    {
+        Parser {
+            current: 0,
+            loops: 0,
+            tokens,
+            errors,
+            nodes: 0,
+            first: 0,
+            last: 0,
+            ended: 0,
+            outcome: Outcome::GOES_ON,
+        }
+    }
+
+    // Whether the final answer is still to be given.
+    pub fn is_open(self) -> bool
+        ensures { λ r. ⌜ r ≡ eqb (self .ended) 0 ⌝ }
+    {
+        self.ended == 0
+    }
+
+    // A token before EOF is left to be read.
+    pub fn going_on(mut self) -> Self
+        ensures { λ r. ⌜ r ≡ markedAs 0 goesOn self ⌝ }
+    {
+        self.ended = 0;
+        self.outcome = Outcome::GOES_ON;
+        self
+    }
+
+    // The final answer is given.
+    pub fn closed(mut self, outcome: u32) -> Self
+        ensures { λ r. ⌜ r ≡ markedAs 1 outcome self ⌝ }
+    {
+        self.ended = 1;
+        self.outcome = outcome;
+        self
+    }
+
+    // Behind a statement, which left this state.
+    pub fn behind(mut self, s: State, statement: u32) -> Self
+        ensures { λ r. ⌜ r ≡ behind self s statement ⌝ }
+    {
+        self.current = s.current;
+        self.loops = s.loops;
+        self.errors = s.errors;
+        self.nodes = s.nodes;
+        self.first = parser::first_of(self.first, statement);
+        self.last = statement;
+        self
+    }
+
+    // At a statement that stopped the reading: none of its nodes is kept, but its errors are.
+    pub fn stopped(mut self, errors: u32) -> Self
+        ensures { λ r. ⌜ r ≡ stoppedAt self errors ⌝ }
+    {
+        self.errors = errors;
+        self
+    }
 }
 
 // Whether none of the first n tokens is EOF.

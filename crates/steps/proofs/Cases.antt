@@ -13,14 +13,14 @@ use Rattle.parser.specs.declared.Got.{Got}
 use Rattle.parser.specs.declared.Got.the-variants.{Node, Stop}
 use Rattle.parser.specs.Tokens.{kindAt}
 use Rattle.parser.specs.Tables.{Reply, reply}
-use Rattle.parser.specs.Grammar.{firstOf}
 use Rattle.parser.specs.Whole.{topLevel}
 use Rattle.reader.specs.Entry.{entered, Enters}
 use Rattle.reader.proofs.Entry.{stands-as}
 use Rattle.host.specs.declared.Parser.{Parser}
+use Rattle.host.specs.Kept.{fresh, stateOf, markedAs, behind, stoppedAt}
 use Rattle.host.specs.Fits.{fitsIn}
 use Rattle.steps.specs.declared.Stepped.{Stepped}
-use Rattle.steps.specs.Steps.{Called, left, leaving, markedAs, final, pickCall, restOf, fresh, begunAfter, begun, refusedAs, stateOf, behind, stoppedAt, afterOne, oneOf, nextOf}
+use Rattle.steps.specs.Steps.{Called, left, leaving, final, pickCall, restOf, begunAfter, begun, refusedAs, afterOne, oneOf, nextOf}
 
 -- the four parts of a call
 pub parts : (c d : Called) → c ≡ d → (c .stepped ≡ d .stepped) × (c .tokens ≡ d .tokens) × (c .errors ≡ d .errors) × (c .nodes ≡ d .nodes)
@@ -56,18 +56,12 @@ module _ (T : List ℕ) (p : Parser) (E N : List ℕ) (k : ℕ) (is : k ≡ kind
     one-came = ap (λ (b : Bool). pickCall b (λ _. final 0 p T E N) λ _. afterOne T p (topLevel T (stateOf p) E N)) (before-eof z) ∙ ap (λ (r : Reply). afterOne T p r) (sym e)
 
     -- it stopped the reading
-    pub one-stops : (o : ℕ) → g ≡ Stop o → oneOf T p E N ≡ final o (stoppedAt p (q .errors)) T E′ N′
-    one-stops o s = one-came ∙ ap (λ (g : Got). afterOne T p (reply q g E′ N′)) s
+    pub one-stops : (o : ℕ) → g ≡ Stop o → (m : Parser) → m ≡ stoppedAt p (q .errors) → final o m T E′ N′ ≡ oneOf T p E N
+    one-stops o s m h = ap (λ (m : Parser). final o m T E′ N′) h ∙ sym (one-came ∙ ap (λ (g : Got). afterOne T p (reply q g E′ N′)) s)
 
     -- it is linked behind the last one
-    pub one-more : (n : Found) → g ≡ Node n → oneOf T p E N ≡ restOf T (behind p q (n .node)) E′ (linked N′ (p .last) (n .node))
-    one-more n s = one-came ∙ ap (λ (g : Got). afterOne T p (reply q g E′ N′)) s
-
-    -- the same with what the code has for the first statement and the nodes
-    pub one-linked : (n : Found) → g ≡ Node n → (f : ℕ) → f ≡ firstOf (p .first) (n .node) → (N″ : List ℕ) → N″ ≡ linked N′ (p .last) (n .node)
-        → restOf T (record { current = q .current; loops = q .loops; tokens = p .tokens; errors = q .errors; nodes = q .nodes; first = f; last = n .node; ended = 0; outcome = 19 }) E′ N″ ≡ oneOf T p E N
-    one-linked n s f h N″ l =
-        (λ i. restOf T (record { current = q .current; loops = q .loops; tokens = p .tokens; errors = q .errors; nodes = q .nodes; first = h i; last = n .node; ended = 0; outcome = 19 }) E′ (l i)) ∙ sym (one-more n s)
+    pub one-linked : (n : Found) → g ≡ Node n → (m : Parser) → m ≡ behind p q (n .node) → (N″ : List ℕ) → N″ ≡ linked N′ (p .last) (n .node) → restOf T m E′ N″ ≡ oneOf T p E N
+    one-linked n s m h N″ l = (λ i. restOf T (h i) E′ (l i)) ∙ sym (one-came ∙ ap (λ (g : Got). afterOne T p (reply q g E′ N′)) s)
 
 -- ---- after lexing
 module _ (s t e n T E N : List ℕ) (d : Scanned) (l : Enters (entered s t e n) d T E N) where
@@ -79,13 +73,14 @@ module _ (s t e n T E N : List ℕ) (d : Scanned) (l : Enters (entered s t e n) 
       ap (λ (x : Bool). pickCall x (λ _. restOf T (fresh (d .tokens) (d .errors)) E N) λ _. left (leaving (markedAs 1 (d .outcome) (fresh (d .tokens) (d .errors)))) T E N) (sym h)
       ∙ ap begunAfter (stands-as (entered s t e n) d T E N l)
 
-  -- what was lexed is read
-  pub begun-reads : d .outcome ≡ 0 → restOf T (fresh (d .tokens) (d .errors)) E N ≡ begun s t e n
-  begun-reads z = begun-by true (eq-eqb (d .outcome) 0 z)
+  module _ (p : Parser) (new : p ≡ fresh (d .tokens) (d .errors)) where
+    -- what was lexed is read
+    pub begun-reads : d .outcome ≡ 0 → restOf T p E N ≡ begun s t e n
+    begun-reads z = ap (λ (p : Parser). restOf T p E N) new ∙ begun-by true (eq-eqb (d .outcome) 0 z)
 
-  -- its outcome is the final answer
-  pub begun-ends : (d .outcome ≡ 0 → ⊥) → (m : Stepped) → m ≡ leaving (markedAs 1 (d .outcome) (fresh (d .tokens) (d .errors))) → left m T E N ≡ begun s t e n
-  begun-ends z m h = ap (λ (x : Stepped). left x T E N) h ∙ begun-by false (ne-eqb (d .outcome) 0 z)
+    -- its outcome is the final answer
+    pub begun-ends : (d .outcome ≡ 0 → ⊥) → (m : Stepped) → m ≡ leaving (markedAs 1 (d .outcome) p) → left m T E N ≡ begun s t e n
+    begun-ends z m h = (λ i. left (h i) T E N) ∙ (λ i. left (leaving (markedAs 1 (d .outcome) (new i))) T E N) ∙ begun-by false (ne-eqb (d .outcome) 0 z)
 
 -- ---- read
 module _ (T E N : List ℕ) (p : Parser) where

@@ -6,15 +6,14 @@ use lib.Dec.{eqb}
 use Rattle.token.specs.Kind.{EOF}
 use Rattle.records.specs.Table.{linked, zeroed, nodeWidth}
 use Rattle.records.specs.Outcomes as outcomes
-use Rattle.parser.specs.declared.State as state
 use Rattle.parser.specs.declared.Got.the-variants.{Node, Stop}
 use Rattle.parser.specs.Tokens.{kindAt}
 use Rattle.parser.specs.Tables.{Reply, reply}
-use Rattle.parser.specs.Grammar.{firstOf}
 use Rattle.parser.specs.Whole.{topLevel}
 use Rattle.reader.specs.declared.Answer.{Answer}
 use Rattle.reader.specs.Entry.{Entered, entered}
 use Rattle.host.specs.declared.Parser.{Parser}
+use Rattle.host.specs.Kept.{fresh, stateOf, markedAs, behind, stoppedAt}
 use Rattle.host.specs.Fits.{fitsIn}
 use Rattle.steps.specs.declared.Stepped.{Stepped}
 
@@ -37,10 +36,6 @@ held p = record { outcome = p .outcome; tokens = p .tokens; errors = p .errors; 
 abbrev pub leaving : Parser → Stepped
 leaving p = record { parser = p; answer = held p }
 
--- the parser with another mark: whether the final answer is given, and the outcome
-abbrev pub markedAs : ℕ → ℕ → Parser → Parser
-markedAs ended outcome p = record { current = p .current; loops = p .loops; tokens = p .tokens; errors = p .errors; nodes = p .nodes; first = p .first; last = p .last; ended = ended; outcome = outcome }
-
 -- the final answer: every word of the node table past the kept nodes is 0
 abbrev pub final : ℕ → Parser → List ℕ → List ℕ → List ℕ → Called
 final outcome p T E N = left (leaving (markedAs 1 outcome p)) T E (zeroed nodeWidth N (p .nodes))
@@ -55,10 +50,6 @@ unfoldable pub restOf : List ℕ → Parser → List ℕ → List ℕ → Called
 restOf T p E N = pickCall (eqb (kindAt T (p .current)) EOF) (λ _. final outcomes.ended p T E N) λ _. left (leaving (markedAs 0 outcomes.goesOn p)) T E N
 
 -- ---- begin
--- the parser before the first statement, with what was lexed
-abbrev pub fresh : ℕ → ℕ → Parser
-fresh tokens errors = record { current = 0; loops = 0; tokens = tokens; errors = errors; nodes = 0; first = 0; last = 0; ended = 0; outcome = outcomes.goesOn }
-
 -- what stands when lexing is over is read, a statement at a time; or its outcome is the final answer
 abbrev pub begunAfter : Entered → Called
 begunAfter d =
@@ -73,18 +64,6 @@ begun s t e n = begunAfter (entered s t e n)
 -- 18, with counts and first statement 0, and nothing changed
 abbrev pub refusedAs : Parser → Stepped
 refusedAs p = record { parser = p; answer = record { outcome = outcomes.doesNotFit; tokens = 0; errors = 0; nodes = 0; first = 0 } }
-
--- the state in which the parser reads
-abbrev pub stateOf : Parser → state.State
-stateOf p = record { current = p .current; errors = p .errors; nodes = p .nodes; loops = p .loops }
-
--- the parser behind a statement n, in the state q
-abbrev pub behind : Parser → state.State → ℕ → Parser
-behind p q n = record { current = q .current; loops = q .loops; tokens = p .tokens; errors = q .errors; nodes = q .nodes; first = firstOf (p .first) n; last = n; ended = 0; outcome = outcomes.goesOn }
-
--- the parser at a statement that stopped the reading: none of its nodes is kept, but its errors are
-abbrev pub stoppedAt : Parser → ℕ → Parser
-stoppedAt p errors = record { current = p .current; loops = p .loops; tokens = p .tokens; errors = errors; nodes = p .nodes; first = p .first; last = p .last; ended = 0; outcome = outcomes.goesOn }
 
 -- by what came of a statement: it is linked behind the last one; or it stopped the reading
 abbrev pub afterOne : List ℕ → Parser → Reply → Called

@@ -2,7 +2,7 @@
 ghost use mathlib.Core.Path.{_≡_};
 ghost use mathlib.Core.List.{List};
 ghost use Prim.Native.Nat.{ℕ};
-ghost use Rattle.steps.specs.Steps.{left, leaving, markedAs, final, restOf, begun, oneOf, nextOf};
+ghost use Rattle.steps.specs.Steps.{left, leaving, final, restOf, begun, oneOf, nextOf};
 use host::Parser;
 use parser::Got;
 use reader::Answer;
@@ -32,30 +32,14 @@ fn leave(p: Parser) -> Stepped
     }
 }
 
-// The same with another mark.
-fn mark(p: Parser, ended: u32, outcome: u32) -> Stepped
-    ensures { λ r. ⌜ r ≡ leaving (markedAs ended outcome p) ⌝ }
-{
-    leave(Parser {
-        current: p.current,
-        loops: p.loops,
-        tokens: p.tokens,
-        errors: p.errors,
-        nodes: p.nodes,
-        first: p.first,
-        last: p.last,
-        ended,
-        outcome,
-    })
-}
-
 // The final answer.
 fn finish(nodes: &mut [u32], p: Parser, outcome: u32) -> Stepped
     ensures { λ r. ⌜ ((T E : List ℕ) → left r T E (now (nodes .exit)) ≡ final outcome p T E (now (nodes .entry))) ⌝ }
 {
     let kept = p.nodes;
     records::zero_rest(nodes, kept);
-    mark(p, 1, outcome)
+    let q = p.closed(outcome);
+    leave(q)
 }
 
 // A token before EOF is left to be read, or the reading is at its end.
@@ -66,7 +50,8 @@ fn rest(tokens: &[u32], nodes: &mut [u32], p: Parser) -> Stepped
     if parser::kind_at(tokens, at) == Token::EOF {
         return finish(nodes, p, Outcome::ENDED);
     }
-    mark(p, 0, Outcome::GOES_ON)
+    let q = p.going_on();
+    leave(q)
 }
 
 // One top-level statement, by the reader that `parse` uses too.
@@ -87,40 +72,15 @@ fn one(tokens: &[u32], errors: &mut [u32], nodes: &mut [u32], p: Parser) -> Step
     let k = g.got;
     let u = g.p;
     match k {
-        Got::Stop(o) => finish(
-            nodes,
-            Parser {
-                current: p.current,
-                loops: p.loops,
-                tokens: p.tokens,
-                errors: u.errors,
-                nodes: p.nodes,
-                first: p.first,
-                last: p.last,
-                ended: 0,
-                outcome: Outcome::GOES_ON,
-            },
-            o,
-        ),
+        Got::Stop(o) => {
+            let q = p.stopped(u.errors);
+            finish(nodes, q, o)
+        }
         Got::Node(n) => {
             let last = p.last;
             records::link(nodes, last, n.node);
-            let first = parser::first_of(p.first, n.node);
-            rest(
-                tokens,
-                nodes,
-                Parser {
-                    current: u.current,
-                    loops: u.loops,
-                    tokens: p.tokens,
-                    errors: u.errors,
-                    nodes: u.nodes,
-                    first,
-                    last: n.node,
-                    ended: 0,
-                    outcome: Outcome::GOES_ON,
-                },
-            )
+            let q = p.behind(u, n.node);
+            rest(tokens, nodes, q)
         }
     }
 }
@@ -139,21 +99,12 @@ pub fn start(
         × (now (nodes .exit) ≡ begun (now (source .entry)) (now (tokens .entry)) (now (errors .entry)) (now (nodes .entry)) .nodes) ⌝ }
 {
     let d = reader::enter(source, tokens, errors, nodes);
-    let p = Parser {
-        current: 0,
-        loops: 0,
-        tokens: d.tokens,
-        errors: d.errors,
-        nodes: 0,
-        first: 0,
-        last: 0,
-        ended: 0,
-        outcome: Outcome::GOES_ON,
-    };
+    let p = Parser::fresh(d.tokens, d.errors);
     if d.outcome == Outcome::ENDED {
         return rest(tokens, nodes, p);
     }
-    mark(p, 1, d.outcome)
+    let q = p.closed(d.outcome);
+    leave(q)
 }
 
 // The core of `read`: the final answer once more, 18, or one statement. The source is not looked at again.
@@ -169,7 +120,7 @@ pub fn step(
         × (now (errors .exit) ≡ nextOf (now (tokens .entry)) (now (errors .entry)) (now (nodes .entry)) p .errors)
         × (now (nodes .exit) ≡ nextOf (now (tokens .entry)) (now (errors .entry)) (now (nodes .entry)) p .nodes) ⌝ }
 {
-    if p.ended == 0 {
+    if p.is_open() {
         if host::fits(tokens, errors, nodes, p) {
             return one(tokens, errors, nodes, p);
         }

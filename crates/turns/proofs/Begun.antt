@@ -25,7 +25,8 @@ use Rattle.parser.specs.Tokens.{kindAt}
 use Rattle.reader.specs.Entry.{Entered, over, entered}
 use Rattle.whole.proofs.Sizes.{over-keeps}
 use Rattle.host.specs.Fits.{noEof, onlyEof}
-use Rattle.steps.specs.Steps.{Called, left, leaving, markedAs, final, pickCall, restOf, fresh, begun, nexts}
+use Rattle.host.specs.Kept.{markedAs, fresh}
+use Rattle.steps.specs.Steps.{Called, left, leaving, final, pickCall, restOf, begun, nexts}
 use Rattle.turns.proofs.Steady as steady
 use Rattle.turns.proofs.Steady.{Fit, Steady, going, rest-steady, reads-steady, steady-ends}
 

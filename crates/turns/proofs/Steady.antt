@@ -31,7 +31,8 @@ use Rattle.trees.proofs.TreeTyping.{Done, Held}
 use Rattle.trees.proofs.Trees.{lower-reads}
 use Rattle.host.specs.declared.Parser.{Parser}
 use Rattle.host.specs.Fits.{noEof, onlyEof, fitsIn}
-use Rattle.steps.specs.Steps.{Called, left, leaving, markedAs, final, pickCall, restOf, stateOf, behind, stoppedAt, afterOne, oneOf, nextOf, next, nexts}
+use Rattle.host.specs.Kept.{markedAs, stateOf, behind, stoppedAt}
+use Rattle.steps.specs.Steps.{Called, left, leaving, final, pickCall, restOf, afterOne, oneOf, nextOf, next, nexts}
 use Rattle.steps.proofs.Cases.{next-again, next-goes-on}
 use Rattle.turns.proofs.Loops.{Low, top-low}
 

@@ -19,7 +19,8 @@ use Rattle.reader.specs.Entry.{Entered, entered}
 use Rattle.reader.specs.Reading.{Reading, refused, joined, pickReading, reading, Answers}
 use Rattle.host.specs.declared.Parser.{Parser}
 use Rattle.host.specs.Fits.{fitsIn}
-use Rattle.steps.specs.Steps.{Called, left, held, leaving, markedAs, final, pickCall, restOf, fresh, begun, stateOf, behind, stoppedAt, afterOne, oneOf, nextOf, next, nexts}
+use Rattle.host.specs.Kept.{markedAs, fresh, stateOf, behind, stoppedAt}
+use Rattle.steps.specs.Steps.{Called, left, held, leaving, final, pickCall, restOf, begun, afterOne, oneOf, nextOf, next, nexts}
 use Rattle.steps.proofs.Cases.{next-again, next-refuses, next-goes-on}
 
 -- how a call stands to the whole reading R: it gave the final answer, and all is as R has it; or the statements that are left make R, with fuel for a turn

@@ -25,6 +25,9 @@ top-level-requires c κs = search needs
 enum-known-k : tie.Need-enum-known-k
 enum-known-k c = search needs
 
+stopped-requires : tie.Need-stopped-requires
+stopped-requires c κs = search needs
+
 finish-requires-2 : tie.Need-finish-requires-2
 finish-requires-2 c κs = search needs
 
@@ -34,8 +37,8 @@ enum-known-k-2 c = search needs
 link-requires : tie.Need-link-requires
 link-requires c κs = search needs
 
-first-of-requires : tie.Need-first-of-requires
-first-of-requires c κs = search needs
+behind-requires : tie.Need-behind-requires
+behind-requires c κs = search needs
 
 rest-requires : tie.Need-rest-requires
 rest-requires c κs = search needs
@@ -48,19 +51,19 @@ same-length-3 c = search needs
 
 returns-2 : tie.Need-returns-2
 returns-2 c =
-    let a = c .before .before .before .before .before .before .before .before .before .before .before .before .before .before .before .before .before .before .before .before .args in
-    c .before .before .finish2 .ensures (a .tokens .now) _ ∙ sym (one-stops (a .tokens .now) (a .p) (a .errors .now) (a .nodes .now) _ (c .before .before .before .before .before .before .before .before .before .before .before .before .before .before .before .before .kind-at .ensures) (c .before .before .before .before .before .before .before .before .before .before .before .before .before .before .before .if1 .left) _ _ _ _ (c .before .before .before .before .before .before .before .before .before .before .before .before .top-level .ensures) _ (c .before .before .before .before .before .k .given .1))
+    let a = c .before .before .before .before .before .before .before .before .before .before .before .before .before .before .before .before .before .before .before .before .before .args in
+    c .before .before .finish2 .ensures (a .tokens .now) _ ∙ one-stops (a .tokens .now) (a .p) (a .errors .now) (a .nodes .now) _ (c .before .before .before .before .before .before .before .before .before .before .before .before .before .before .before .before .before .kind-at .ensures) (c .before .before .before .before .before .before .before .before .before .before .before .before .before .before .before .before .if1 .left) _ _ _ _ (c .before .before .before .before .before .before .before .before .before .before .before .before .before .top-level .ensures) _ (c .before .before .before .before .before .before .k .given .1) _ (c .before .before .before .before .stopped .ensures)
 
 same-length-4 : tie.Need-same-length-4
-same-length-4 c = search needs
+same-length-4 c = c .before .before .before .before .before .before .before .before .before .before .before .before .before .before .before .before .before .top-level .kept .1 .0
 
 same-length-5 : tie.Need-same-length-5
-same-length-5 c = search needs
+same-length-5 c = c .before .before .rest .kept .1 .0 ∙ c .before .before .before .before .before .before .before .link .kept .0 ∙ c .before .before .before .before .before .before .before .before .before .before .before .before .before .before .before .before .before .top-level .kept .1 .1 .0
 
 returns-3 : tie.Need-returns-3
 returns-3 c =
     let a = c .before .before .before .before .before .before .before .before .before .before .before .before .before .before .before .before .before .before .before .before .before .before .before .before .before .args in
-    c .before .before .rest .ensures _ ∙ one-linked (a .tokens .now) (a .p) (a .errors .now) (a .nodes .now) _ (c .before .before .before .before .before .before .before .before .before .before .before .before .before .before .before .before .before .before .before .before .before .kind-at .ensures) (c .before .before .before .before .before .before .before .before .before .before .before .before .before .before .before .before .before .before .before .before .if1 .left) _ _ _ _ (c .before .before .before .before .before .before .before .before .before .before .before .before .before .before .before .before .before .top-level .ensures) _ (c .before .before .before .before .before .before .before .before .before .before .k2 .given .1) _ (c .before .before .before .before .first-of .ensures) _ (c .before .before .before .before .before .before .before .link .ensures)
+    c .before .before .rest .ensures _ ∙ one-linked (a .tokens .now) (a .p) (a .errors .now) (a .nodes .now) _ (c .before .before .before .before .before .before .before .before .before .before .before .before .before .before .before .before .before .before .before .before .before .kind-at .ensures) (c .before .before .before .before .before .before .before .before .before .before .before .before .before .before .before .before .before .before .before .before .if1 .left) _ _ _ _ (c .before .before .before .before .before .before .before .before .before .before .before .before .before .before .before .before .before .top-level .ensures) _ (c .before .before .before .before .before .before .before .before .before .before .k2 .given .1) _ (c .before .before .before .before .behind .ensures) _ (c .before .before .before .before .before .before .before .link .ensures)
 
 pub one-spec : {M : Type 1} → statement M
 one-spec =
@@ -72,10 +75,11 @@ one-spec =
     returns
     top-level-requires
     enum-known-k
+    stopped-requires
     finish-requires-2
     enum-known-k-2
     link-requires
-    first-of-requires
+    behind-requires
     rest-requires
     same-length-2
     same-length-3

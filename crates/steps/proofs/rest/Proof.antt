@@ -1,7 +1,7 @@
 -- `steps::rest` meets its contract. Assumes nothing.
-use mathlib.Core.Path.{_≡_, sym, _∙_}
+use mathlib.Core.Path.{_≡_, sym, ap, _∙_}
 use borrow.Author.Needs.{needs}
-use Rattle.steps.specs.Steps.{left}
+use Rattle.steps.specs.Steps.{left, leaving}
 use Rattle.steps.proofs.Cases.{rest-ends, rest-stays}
 use Rattle.steps.proofs.rest.Statement.{statement}
 use Rattle.steps.proofs.rest.Tie as tie
@@ -20,15 +20,18 @@ returns c = λ E.
     let a = c .before .before .before .before .before .before .before .before .args in
     c .before .before .finish .ensures (a .tokens .now) E ∙ sym (rest-ends (a .tokens .now) (a .p) E (a .nodes .now) _ (c .before .before .before .before .before .kind-at .ensures) (c .before .before .before .before .if1 .taken))
 
-mark-requires : tie.Need-mark-requires
-mark-requires c κs = search needs
+going-on-requires : tie.Need-going-on-requires
+going-on-requires c κs = search needs
+
+leave-requires : tie.Need-leave-requires
+leave-requires c κs = search needs
 
 returns-2 : tie.Need-returns-2
 returns-2 c = λ E.
-    let a = c .before .before .before .before .before .args in
-    (λ i. left (c .mark .ensures i) (a .tokens .now) E (a .nodes .now)) ∙ sym (rest-stays (a .tokens .now) (a .p) E (a .nodes .now) _ (c .before .before .kind-at .ensures) (c .before .if1 .left))
+    let a = c .before .before .before .before .before .before .args in
+    (λ i. left ((c .leave .ensures ∙ ap leaving (c .before .going-on .ensures)) i) (a .tokens .now) E (a .nodes .now)) ∙ sym (rest-stays (a .tokens .now) (a .p) E (a .nodes .now) _ (c .before .before .before .kind-at .ensures) (c .before .before .if1 .left))
 
 pub rest-spec : {M : Type 1} → statement M
 rest-spec =
     tie.close
-    (tie.spec kind-at-requires finish-requires same-length returns mark-requires returns-2)
+    (tie.spec kind-at-requires finish-requires same-length returns going-on-requires leave-requires returns-2)

@@ -1,10 +1,14 @@
 -- `steps::step` meets its contract: the final answer, the test, or a statement. Assumes nothing.
-use mathlib.Core.Path.{_∙_}
+use mathlib.Core.Path.{sym, _∙_}
+use borrow.Author.Tests.{eqb-true, eqb-false}
 use borrow.Author.Needs.{needs}
 use Rattle.steps.specs.Steps.{left}
 use Rattle.steps.proofs.Cases.{parts, next-again, next-refuses, next-goes-on}
 use Rattle.steps.proofs.step.Statement.{statement}
 use Rattle.steps.proofs.step.Tie as tie
+
+is-open-requires : tie.Need-is-open-requires
+is-open-requires c κs = search needs
 
 fits-requires : tie.Need-fits-requires
 fits-requires c κs = search needs
@@ -24,7 +28,7 @@ same-length-3 c = search needs
 returns : tie.Need-returns
 returns c =
     let a = c .before .before .before .before .before .before .before .before .before .before .before .before .before .before .before .before .before .before .before .args in
-    parts _ _ (c .before .before .before .before .one .ensures ∙ next-goes-on (a .tokens .now) (a .errors .now) (a .nodes .now) (a .p) (c .before .before .before .before .before .before .before .before .before .before .before .before .before .if1 .taken) _ (c .before .before .before .before .before .before .before .before .before .fits2 .ensures) (c .before .before .before .before .before .before .before .before .if2 .taken))
+    parts _ _ (c .before .before .before .before .one .ensures ∙ next-goes-on (a .tokens .now) (a .errors .now) (a .nodes .now) (a .p) (eqb-true _ 0 (sym (c .before .before .before .before .before .before .before .before .before .before .before .before .before .before .is-open .ensures) ∙ c .before .before .before .before .before .before .before .before .before .before .before .before .before .if1 .taken)) _ (c .before .before .before .before .before .before .before .before .before .fits2 .ensures) (c .before .before .before .before .before .before .before .before .if2 .taken))
 
 same-length-4 : tie.Need-same-length-4
 same-length-4 c = search needs
@@ -38,7 +42,7 @@ same-length-6 c = search needs
 returns-2 : tie.Need-returns-2
 returns-2 c =
     let a = c .before .before .before .before .before .before .before .before .before .before .before .args in
-    parts _ _ (next-refuses (a .tokens .now) (a .errors .now) (a .nodes .now) (a .p) (c .before .before .before .before .before .if1 .taken) _ (c .before .fits2 .ensures) (c .if2 .left))
+    parts _ _ (next-refuses (a .tokens .now) (a .errors .now) (a .nodes .now) (a .p) (eqb-true _ 0 (sym (c .before .before .before .before .before .before .is-open .ensures) ∙ c .before .before .before .before .before .if1 .taken)) _ (c .before .fits2 .ensures) (c .if2 .left))
 
 leave-requires : tie.Need-leave-requires
 leave-requires c κs = search needs
@@ -46,12 +50,13 @@ leave-requires c κs = search needs
 returns-3 : tie.Need-returns-3
 returns-3 c =
     let a = c .before .before .before .before .before .before .before .args in
-    parts _ _ ((λ i. left (c .leave .ensures i) (a .tokens .now) (a .errors .now) (a .nodes .now)) ∙ next-again (a .tokens .now) (a .errors .now) (a .nodes .now) (a .p) (c .before .if1 .left))
+    parts _ _ ((λ i. left (c .leave .ensures i) (a .tokens .now) (a .errors .now) (a .nodes .now)) ∙ next-again (a .tokens .now) (a .errors .now) (a .nodes .now) (a .p) (eqb-false _ 0 (sym (c .before .before .is-open .ensures) ∙ c .before .if1 .left)))
 
 pub step-spec : {M : Type 1} → statement M
 step-spec =
     tie.close
     (tie.spec
+    is-open-requires
     fits-requires
     one-requires
     same-length
