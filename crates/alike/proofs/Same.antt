@@ -12,8 +12,8 @@ use Rattle.records.specs.Table.{room, tokenWidth, errorWidth}
 use Rattle.items.specs.declared.Item.{Item}
 use Rattle.lexer.specs.Lex.{Result, emit, fresh, refusal, pickResult, lexed, lexedOf}
 use Rattle.parser.specs.Whole.{Parsed, parsed}
-use Rattle.reader.specs.Entry.{over, enteredAfter}
-use Rattle.reader.specs.Reading.{Reading, readAfter, reading}
+use Rattle.entry.specs.Entry.{over, enteredAfter}
+use Rattle.entry.specs.Reading.{Reading, readAfter, reading}
 use Rattle.whole.specs.Sizes.{SameReading}
 use Rattle.whole.proofs.Sizes.{reading-sizes, reading-read}
 use Rattle.blackout.specs.Blackout.{alike, Blackout}

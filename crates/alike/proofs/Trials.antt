@@ -6,7 +6,7 @@ use lib.ListN.{replicate, take}
 use Rattle.token.specs.Keyword.{same}
 use Rattle.text.proofs.Codes.{codes}
 use Rattle.records.specs.Table.{tokenWidth, errorWidth, nodeWidth}
-use Rattle.reader.specs.Reading.{Reading, reading}
+use Rattle.entry.specs.Reading.{Reading, reading}
 use Rattle.blackout.proofs.Trials.{Pair, pair}
 
 -- what demand 3 says is the same: the answer, and every word of the kept records

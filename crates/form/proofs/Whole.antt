@@ -9,8 +9,8 @@ use lib.ListN.{length, replicate}
 use lib.Seq.{length-take-le}
 use Rattle.io.specs.Counts.{Counts}
 use Rattle.records.specs.Table.{tokenWidth, errorWidth, nodeWidth}
-use Rattle.reader.specs.declared.Answer.{Answer}
-use Rattle.reader.specs.Reading.{Reading, reading, Answers}
+use Rattle.entry.specs.declared.Answer.{Answer}
+use Rattle.entry.specs.Reading.{Reading, reading, Answers}
 use Rattle.form.specs.Text.{Holds, headOf, linesOf, readOf, textOf, outlineOf}
 use Rattle.form.proofs.Laws.{holds-within}
 

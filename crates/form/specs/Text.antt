@@ -6,8 +6,8 @@ use mathlib.Core.List.{List, [], _∷_, _++_}
 use lib.Dec.{ltb}
 use lib.ListN.{length, getD, take, drop, replicate}
 use Rattle.records.specs.Table.{tokenWidth, errorWidth, nodeWidth}
-use Rattle.reader.specs.declared.Answer.{Answer}
-use Rattle.reader.specs.Reading.{Reading, reading}
+use Rattle.entry.specs.declared.Answer.{Answer}
+use Rattle.entry.specs.Reading.{Reading, reading}
 
 -- the digits of a number below 10 ^ k, without zeros in front
 abbrev pub digitsWithin : ℕ → ℕ → List ℕ

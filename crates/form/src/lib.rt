@@ -6,7 +6,7 @@ ghost use mathlib.Core.List.{List, [], _∷_, _++_};
 ghost use lib.ListN.{getD};
 ghost use Rattle.io.specs.Counts.{Counts};
 ghost use Rattle.form.specs.Text.{Holds, field, lineOf, linesOf, headOf, readOf, textOf, outlineOf};
-use reader::Answer;
+use entry::Answer;
 
 // The longest script that is read.
 const MOST_BYTES: usize = 4096;

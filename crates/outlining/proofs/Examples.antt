@@ -1,7 +1,7 @@
 -- Worked examples of the form, by computation. Assumes nothing.
 use mathlib.Core.Path.{_≡_, refl}
 use mathlib.Core.List.{List, [], _∷_}
-use Rattle.reader.specs.Reading.{Reading}
+use Rattle.entry.specs.Reading.{Reading}
 use Rattle.text.proofs.Codes.{codes}
 use Rattle.form.specs.Text.{decimal, fields, lineOf, linesOf, textOf}
 

@@ -9,7 +9,7 @@ use lib.Dec.{ltb}
 use lib.ListN.{length, getD, take, drop, replicate, length-append, length-replicate}
 use lib.Seq.{take-all}
 use Rattle.records.specs.Table.{room, tokenWidth, errorWidth, nodeWidth}
-use Rattle.reader.specs.Reading.{Reading, reading}
+use Rattle.entry.specs.Reading.{Reading, reading}
 use Rattle.whole.specs.Sizes.{Within}
 use Rattle.whole.proofs.Rooms.{reading-rooms}
 use Rattle.form.specs.Text.{Holds, digitsWithin, decimal, field, fields, lineOf, linesOf, headOf, textOf, outlineOf}

@@ -43,9 +43,9 @@ use denote.Exit.{yes}
 use Rattle.host.specs.declared.Parser.{Parser}
 use Rattle.host.proofs.Parser as P
 use Rattle.host.proofs.Parser.Laws as P′
-use Rattle.reader.specs.declared.Answer.{Answer}
-use Rattle.reader.proofs.Answer as N
-use Rattle.reader.proofs.Answer.Laws as N′
+use Rattle.entry.specs.declared.Answer.{Answer}
+use Rattle.entry.proofs.Answer as N
+use Rattle.entry.proofs.Answer.Laws as N′
 use Rattle.steps.specs.declared.Stepped.{Stepped}
 use Rattle.steps.proofs.Stepped as S
 use Rattle.steps.proofs.Stepped.Laws as S′

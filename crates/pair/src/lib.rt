@@ -1,8 +1,8 @@
 // What Rust and C link for one statement at a time, over a parser that the host keeps and lends.
 ghost use mathlib.Core.Path.{_≡_};
 ghost use Rattle.steps.specs.Steps.{begun, nextOf};
+use entry::Answer;
 use host::Parser;
-use reader::Answer;
 
 // `begin` for Rust and C: lexes the source, and leaves a parser that reads its statements.
 #[no_mangle]

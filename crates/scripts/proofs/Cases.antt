@@ -5,7 +5,7 @@ use mathlib.Core.Bool.{cond}
 use mathlib.Core.List.{List, [], _∷_, _++_}
 use lib.Dec.{eqb}
 use lib.ListN.{replicate, take, drop}
-use Rattle.reader.specs.Reading.{Reading, reading}
+use Rattle.entry.specs.Reading.{Reading, reading}
 use Rattle.text.proofs.Codes.{codes}
 
 -- a script, the rooms for tokens, errors and nodes, and the words that are kept

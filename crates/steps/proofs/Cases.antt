@@ -14,8 +14,8 @@ use Rattle.parser.specs.declared.Got.the-variants.{Node, Stop}
 use Rattle.parser.specs.Tokens.{kindAt}
 use Rattle.parser.specs.Tables.{Reply, reply}
 use Rattle.parser.specs.Whole.{topLevel}
-use Rattle.reader.specs.Entry.{entered, Enters}
-use Rattle.reader.proofs.Entry.{stands-as}
+use Rattle.entry.specs.Entry.{entered, Enters}
+use Rattle.entry.proofs.Entry.{stands-as}
 use Rattle.host.specs.declared.Parser.{Parser}
 use Rattle.host.specs.Kept.{fresh, stateOf, markedAs, behind, stoppedAt}
 use Rattle.host.specs.Fits.{fitsIn}

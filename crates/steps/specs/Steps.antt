@@ -10,8 +10,8 @@ use Rattle.parser.specs.declared.Got.the-variants.{Node, Stop}
 use Rattle.parser.specs.Tokens.{kindAt}
 use Rattle.parser.specs.Tables.{Reply, reply}
 use Rattle.parser.specs.Whole.{topLevel}
-use Rattle.reader.specs.declared.Answer.{Answer}
-use Rattle.reader.specs.Entry.{Entered, entered}
+use Rattle.entry.specs.declared.Answer.{Answer}
+use Rattle.entry.specs.Entry.{Entered, entered}
 use Rattle.host.specs.declared.Parser.{Parser}
 use Rattle.host.specs.Kept.{fresh, stateOf, markedAs, behind, stoppedAt}
 use Rattle.host.specs.Fits.{fitsIn}

@@ -3,9 +3,9 @@ ghost use mathlib.Core.Path.{_≡_};
 ghost use mathlib.Core.List.{List};
 ghost use Prim.Native.Nat.{ℕ};
 ghost use Rattle.steps.specs.Steps.{left, leaving, final, restOf, begun, oneOf, nextOf};
+use entry::Answer;
 use host::Parser;
 use parser::Got;
-use reader::Answer;
 use records::Outcome;
 use token::Token;
 
@@ -98,7 +98,7 @@ pub fn start(
         × (now (errors .exit) ≡ begun (now (source .entry)) (now (tokens .entry)) (now (errors .entry)) (now (nodes .entry)) .errors)
         × (now (nodes .exit) ≡ begun (now (source .entry)) (now (tokens .entry)) (now (errors .entry)) (now (nodes .entry)) .nodes) ⌝ }
 {
-    let d = reader::enter(source, tokens, errors, nodes);
+    let d = entry::enter(source, tokens, errors, nodes);
     let p = Parser::fresh(d.tokens, d.errors);
     if d.outcome == Outcome::ENDED {
         return rest(tokens, nodes, p);

@@ -22,7 +22,7 @@ use Rattle.lexing.specs.Kept.{Good, Eof, Ending, whole, short, Keeps}
 use Rattle.lexing.proofs.Kept.{lexed-keeps}
 use Rattle.lexing.proofs.Answer.{token-count, tokens-within, errors-within}
 use Rattle.parser.specs.Tokens.{kindAt}
-use Rattle.reader.specs.Entry.{Entered, over, entered}
+use Rattle.entry.specs.Entry.{Entered, over, entered}
 use Rattle.whole.proofs.Sizes.{over-keeps}
 use Rattle.host.specs.Fits.{noEof, onlyEof}
 use Rattle.host.specs.Kept.{markedAs, fresh}

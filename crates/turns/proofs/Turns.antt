@@ -13,10 +13,10 @@ use Rattle.parser.specs.Tables.{Reply, reply}
 use Rattle.parser.specs.Grammar.{firstOf}
 use Rattle.parser.specs.Whole.{Parsed, ends, topLevel, statements, parsed}
 use Rattle.statements.proofs.TopLevel.{at-end, stops, goes-on, statement-past}
-use Rattle.reader.specs.declared.Answer.{Answer}
+use Rattle.entry.specs.declared.Answer.{Answer}
 use Rattle.whole.proofs.Outcome.{reading-outcome}
-use Rattle.reader.specs.Entry.{Entered, entered}
-use Rattle.reader.specs.Reading.{Reading, refused, joined, pickReading, reading, Answers}
+use Rattle.entry.specs.Entry.{Entered, entered}
+use Rattle.entry.specs.Reading.{Reading, refused, joined, pickReading, reading, Answers}
 use Rattle.host.specs.declared.Parser.{Parser}
 use Rattle.host.specs.Fits.{fitsIn}
 use Rattle.host.specs.Kept.{markedAs, fresh, stateOf, behind, stoppedAt}

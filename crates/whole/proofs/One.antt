@@ -11,9 +11,9 @@ use Rattle.lexer.specs.declared.Scanned.{Scanned}
 use Rattle.lexer.specs.Lex.{Result, Lexing}
 use Rattle.parser.specs.declared.Parsed as answers
 use Rattle.parser.specs.Whole.{Parsed, Parsing}
-use Rattle.reader.specs.declared.Answer.{Answer}
-use Rattle.reader.specs.Entry.{Entered, Enters}
-use Rattle.reader.specs.Reading.{Reading, Answers}
+use Rattle.entry.specs.declared.Answer.{Answer}
+use Rattle.entry.specs.Entry.{Entered, Enters}
+use Rattle.entry.specs.Reading.{Reading, Answers}
 
 -- two that equal a third
 meet : {A : Type 0} {x y z : A} → x ≡ z → y ≡ z → x ≡ y
@@ -50,7 +50,7 @@ one-parsing d r r′ E E′ N N′ x y = (
   meet (x .node-table) (y .node-table),
 )
 
--- `reader::enter`
+-- `entry::enter`
 pub one-entry : (d : Entered) (r r′ : Scanned) (T T′ E E′ N N′ : List ℕ) → Enters d r T E N → Enters d r′ T′ E′ N′ → (r ≡ r′) × (T ≡ T′) × (E ≡ E′) × (N ≡ N′)
 one-entry d r r′ T T′ E E′ N N′ x y = (
   scanned r r′ (meet (x .outcome-is) (y .outcome-is)) (meet (x .tokens-are) (y .tokens-are)) (meet (x .errors-are) (y .errors-are)),

@@ -16,8 +16,8 @@ use Rattle.lexer.specs.Lex.{State, Result, Onward, go, stop, pickOnward, kept, 
 use Rattle.parser.specs.Whole.{parsed}
 use Rattle.parsing.specs.Ahead.{isOutcome}
 use Rattle.parsing.proofs.Ahead.{parsed-outcome}
-use Rattle.reader.specs.Entry.{over, nodesAfter, enteredAfter}
-use Rattle.reader.specs.Reading.{refused, joined, pickReading, readAfter, reading}
+use Rattle.entry.specs.Entry.{over, nodesAfter, enteredAfter}
+use Rattle.entry.specs.Reading.{refused, joined, pickReading, readAfter, reading}
 
 -- where a lexing stops, it is with such an outcome
 abbrev Low : Onward → Type 0

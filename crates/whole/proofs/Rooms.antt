@@ -14,8 +14,8 @@ use Rattle.lexing.proofs.Kept.{lexed-keeps}
 use Rattle.lexing.proofs.Answer.{errors-within}
 use Rattle.parser.specs.Whole.{parsed}
 use Rattle.parsing.proofs.Frame.{parsed-errors-kept, parsed-nodes-within}
-use Rattle.reader.specs.Entry.{over, nodesAfter, enteredAfter}
-use Rattle.reader.specs.Reading.{refused, joined, pickReading, readAfter, reading}
+use Rattle.entry.specs.Entry.{over, nodesAfter, enteredAfter}
+use Rattle.entry.specs.Reading.{refused, joined, pickReading, readAfter, reading}
 use Rattle.whole.specs.Sizes.{Within}
 use Rattle.whole.proofs.Sizes.{over-keeps, after-long}
 

@@ -29,8 +29,8 @@ use Rattle.parsing.specs.Ahead.{Agree, isOutcome}
 use Rattle.parsing.proofs.Sizes.{SameParsed, parsed-sizes}
 use Rattle.parsing.proofs.Frame.{parsed-errors-kept, parsed-nodes-long}
 use Rattle.parsing.proofs.Ahead.{parsed-tokens, parsed-outcome}
-use Rattle.reader.specs.Entry.{over, unread, nodesAfter, enteredAfter}
-use Rattle.reader.specs.Reading.{refused, joined, pickReading, readAfter, reading}
+use Rattle.entry.specs.Entry.{over, unread, nodesAfter, enteredAfter}
+use Rattle.entry.specs.Reading.{refused, joined, pickReading, readAfter, reading}
 use Rattle.whole.specs.Sizes.{SameReading, Rest}
 
 true-false : {A : Type 0} → true ≡ false → A

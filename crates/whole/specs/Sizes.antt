@@ -5,8 +5,8 @@ use mathlib.Core.Bool.{true, false}
 use mathlib.Core.List.{List}
 use lib.ListN.{length, take, drop}
 use Rattle.records.specs.Table.{room, tokenWidth, errorWidth, nodeWidth}
-use Rattle.reader.specs.Entry.{unread}
-use Rattle.reader.specs.Reading.{Reading}
+use Rattle.entry.specs.Entry.{unread}
+use Rattle.entry.specs.Reading.{Reading}
 
 -- the same answer, the same kept tokens and errors, and, if the source was read, the same node table, word for word
 pub record SameReading (a b : Reading) : Type 0 where

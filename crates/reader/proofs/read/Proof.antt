@@ -1,6 +1,6 @@
 -- `reader::read` meets its contract. Assumes nothing.
 use borrow.Author.Needs.{needs}
-use Rattle.reader.proofs.Entry.{goes-on, ends}
+use Rattle.reader.proofs.Joined.{goes-on, ends}
 use Rattle.reader.proofs.read.Statement.{statement}
 use Rattle.reader.proofs.read.Tie as tie
 

@@ -6,8 +6,8 @@ use mathlib.Core.List.{List}
 use lib.Dec.{eqb}
 use Rattle.records.specs.Outcomes.{ended}
 use Rattle.parser.specs.Whole.{Parsed, parsed}
-use Rattle.reader.specs.declared.Answer.{Answer}
-use Rattle.reader.specs.Entry.{Entered, entered}
+use Rattle.entry.specs.declared.Answer.{Answer}
+use Rattle.entry.specs.Entry.{Entered, entered}
 
 -- what a reading comes to: the answer in its order, and the three tables
 pub record Reading : Type 0 where

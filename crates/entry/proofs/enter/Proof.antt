@@ -1,8 +1,8 @@
--- `reader::enter` meets its contract. Assumes nothing.
+-- `entry::enter` meets its contract. Assumes nothing.
 use borrow.Author.Needs.{needs}
-use Rattle.reader.proofs.Entry.{leaves, clears}
-use Rattle.reader.proofs.enter.Statement.{statement}
-use Rattle.reader.proofs.enter.Tie as tie
+use Rattle.entry.proofs.Entry.{leaves, clears}
+use Rattle.entry.proofs.enter.Statement.{statement}
+use Rattle.entry.proofs.enter.Tie as tie
 
 scan-requires : tie.Need-scan-requires
 scan-requires c κs = search needs
