@@ -1,27 +1,70 @@
--- The text test of document 01: 00..7F alone; C2..DF with one byte 80..BF; E0..EF with two; F0..F4 with three.
-use Prim.Native.Nat.{ℕ, _-_}
-use mathlib.Core.Bool.{Bool, true, false, _&&_, cond}
+-- The text test: what the Unicode Standard's table of well-formed UTF-8 byte sequences (Table 3-7) lets in.
+use Prim.Native.Nat.{ℕ}
+use mathlib.Core.Bool.{Bool, true, false, cond, _&&_, _||_}
 use mathlib.Core.List.{List, [], _∷_}
-use lib.Dec.{leb, ltb, eqb}
+use lib.Dec.{leb}
 
--- how many bytes 80..BF follow a first byte b; 4 where no text has it there
-abbrev pub followOf : ℕ → ℕ
-followOf b =
-    cond (ltb b 0x80) 0 (cond (ltb b 0xc2) 4 (cond (ltb b 0xe0) 1 (cond (ltb b 0xf0) 2 (cond (ltb b 0xf5) 3 4))))
+-- a column of a row: the bytes from one to another
+pub record Bytes : Type 0 where
+  pub from : ℕ
+  pub to : ℕ
 
--- whether b may follow a first byte: 80..BF
-abbrev pub follows : ℕ → Bool
-follows b = leb 0x80 b && leb b 0xbf
+infix 80 _‥_
+abbrev pub _‥_ : ℕ → ℕ → Bytes
+a ‥ b = record { from = a; to = b }
 
--- how many are due after b, where d were due before it; 4 where the text test fails at b
-abbrev pub after : ℕ → ℕ → ℕ
-after d b = cond (eqb d 0) (followOf b) (cond (follows b) (d - 1) 4)
+-- a row: its first byte, and the bytes that follow
+pub record Row : Type 0 where
+  pub first : Bytes
+  pub others : List Bytes
 
--- the bytes that are left pass, with d bytes due
-abbrev pub textFrom : List ℕ → ℕ → Bool
-textFrom [] d = eqb d 0
-textFrom (b ∷ s) d = ltb (after d b) 4 && textFrom s (after d b)
+abbrev pub row : Bytes → List Bytes → Row
+row first others = record { first = first; others = others }
+
+-- the table, in the Standard's order
+abbrev pub table : List Row
+table =
+    row (0x00 ‥ 0x7f) [] ∷  -- U+0000..U+007F
+    row (0xc2 ‥ 0xdf) (0x80 ‥ 0xbf ∷ []) ∷  -- U+0080..U+07FF
+    row (0xe0 ‥ 0xe0) (0xa0 ‥ 0xbf ∷ 0x80 ‥ 0xbf ∷ []) ∷  -- U+0800..U+0FFF
+    row (0xe1 ‥ 0xec) (0x80 ‥ 0xbf ∷ 0x80 ‥ 0xbf ∷ []) ∷  -- U+1000..U+CFFF
+    row (0xed ‥ 0xed) (0x80 ‥ 0x9f ∷ 0x80 ‥ 0xbf ∷ []) ∷  -- U+D000..U+D7FF
+    row (0xee ‥ 0xef) (0x80 ‥ 0xbf ∷ 0x80 ‥ 0xbf ∷ []) ∷  -- U+E000..U+FFFF
+    row (0xf0 ‥ 0xf0) (0x90 ‥ 0xbf ∷ 0x80 ‥ 0xbf ∷ 0x80 ‥ 0xbf ∷ []) ∷  -- U+10000..U+3FFFF
+    row (0xf1 ‥ 0xf3) (0x80 ‥ 0xbf ∷ 0x80 ‥ 0xbf ∷ 0x80 ‥ 0xbf ∷ []) ∷  -- U+40000..U+FFFFF
+    row (0xf4 ‥ 0xf4) (0x80 ‥ 0x8f ∷ 0x80 ‥ 0xbf ∷ 0x80 ‥ 0xbf ∷ []) ∷  -- U+100000..U+10FFFF
+    []
+
+-- whether a byte is of a column
+abbrev pub has : Bytes → ℕ → Bool
+has c b = leb (c .from) b && leb b (c .to)
+
+-- whether one of these rows begins with b
+abbrev pub begins : List Row → ℕ → Bool
+begins [] b = false
+begins (r ∷ rows) b = has (r .first) b || begins rows b
+
+-- the bytes that follow in the row that begins with b
+abbrev pub behind : List Row → ℕ → List Bytes
+behind [] b = []
+behind (r ∷ rows) b = cond (has (r .first) b) (r .others) (behind rows b)
+
+-- whether b may stand where these columns are due; where none is, it begins a row
+abbrev pub fits : List Bytes → ℕ → Bool
+fits [] b = begins table b
+fits (c ∷ due) b = has c b
+
+-- the columns that are due after it
+abbrev pub after : List Bytes → ℕ → List Bytes
+after [] b = behind table b
+after (c ∷ due) b = due
+
+-- the bytes that are left pass, with these columns due
+abbrev pub textFrom : List ℕ → List Bytes → Bool
+textFrom [] [] = true
+textFrom [] (c ∷ due) = false
+textFrom (b ∷ s) due = fits due b && textFrom s (after due b)
 
 -- the text test
 unfoldable pub isText : List ℕ → Bool
-isText s = textFrom s 0
+isText s = textFrom s []

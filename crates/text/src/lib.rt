@@ -1,8 +1,10 @@
-// The text test (added by document 01): what it accepts is close to what Rust accepts as a String.
+// The text test: bytes pass that are well-formed by the Unicode Standard's table, which is what Rust accepts as a String.
 ghost use mathlib.Core.Path.{_≡_};
-ghost use mathlib.Core.Bool.{true, cond};
+ghost use mathlib.Core.Bool.{true};
+ghost use mathlib.Core.List.{[]};
 ghost use Prim.Native.Nat.{_≤_};
-ghost use Rattle.text.specs.Text.{followOf, follows, after, isText};
+ghost use Rattle.text.specs.Text.{table, begins, behind, fits, after, isText};
+ghost use Rattle.text.specs.Due.{columnsOf};
 
 // Whether s passes the text test. Most scripts are plain ASCII, which one pass without a branch shows.
 pub fn is_text(s: &[u8]) -> bool
@@ -11,16 +13,17 @@ pub fn is_text(s: &[u8]) -> bool
     if is_ascii(s) {
         return true;
     }
-    let mut d = 0;
+    let mut due = Due::none();
     let mut i = 0;
     while i < s.len() {
-        d = due(d, s[i]);
-        if d >= 4 {
+        let b = s[i];
+        if !due.fits(b) {
             return false;
         }
+        due = due.after(b);
         i += 1;
     }
-    d == 0
+    due.left == 0
 }
 
 // Whether no byte is over 7F, and then s is text. The largest byte decides: the compiler takes many bytes at a time.
@@ -42,35 +45,71 @@ fn larger(a: u8, b: u8) -> u8
     if a < b { b } else { a }
 }
 
-// How many bytes are due after b, where d were due before it; 4 where the test fails.
-fn due(d: usize, b: u8) -> usize
-    ensures { λ r. ⌜ r ≡ after d b ⌝ }
-{
-    if d == 0 {
-        follow(b)
-    } else {
-        pick((0x80 <= b) & (b <= 0xbf), d - 1, 4)
+// What is due within a letter: how many bytes, and from what to what the next of them may be. Those after it are 80..BF.
+struct Due {
+    left: usize,
+    low: u8,
+    high: u8,
+}
+
+impl Due {
+    // Between two letters.
+    fn none() -> Self
+        ensures { λ r. ⌜ columnsOf r ≡ [] ⌝ }
+    {
+        Due::bytes(0, 0x80, 0xbf)
+    }
+
+    fn bytes(left: usize, low: u8, high: u8) -> Self
+        ensures { λ r. ⌜ r ≡ record { left = left; low = low; high = high } ⌝ }
+    {
+        Due { left, low, high }
+    }
+
+    // Whether b may come next.
+    fn fits(self, b: u8) -> bool
+        ensures { λ r. ⌜ r ≡ fits (columnsOf self) b ⌝ }
+    {
+        if self.left == 0 {
+            is_first(b)
+        } else {
+            (self.low <= b) & (b <= self.high)
+        }
+    }
+
+    // What is due after b.
+    fn after(self, b: u8) -> Self
+        ensures { λ r. ⌜ columnsOf r ≡ after (columnsOf self) b ⌝ }
+    {
+        if self.left == 0 {
+            Due::behind(b)
+        } else {
+            Due::bytes(self.left - 1, 0x80, 0xbf)
+        }
+    }
+
+    // What follows a first byte, by the rows of the table; nothing where no row begins with b.
+    fn behind(b: u8) -> Self
+        ensures { λ r. ⌜ columnsOf r ≡ behind table b ⌝ }
+    {
+        match b {
+            0x00..=0x7f => Due::none(),
+            0xc2..=0xdf => Due::bytes(1, 0x80, 0xbf),
+            0xe0 => Due::bytes(2, 0xa0, 0xbf),
+            0xe1..=0xec => Due::bytes(2, 0x80, 0xbf),
+            0xed => Due::bytes(2, 0x80, 0x9f),
+            0xee..=0xef => Due::bytes(2, 0x80, 0xbf),
+            0xf0 => Due::bytes(3, 0x90, 0xbf),
+            0xf1..=0xf3 => Due::bytes(3, 0x80, 0xbf),
+            0xf4 => Due::bytes(3, 0x80, 0x8f),
+            _ => Due::none(),
+        }
     }
 }
 
-// How many bytes 80..BF follow a first byte b; 4 where no text has it there.
-fn follow(b: u8) -> usize
-    ensures { λ r. ⌜ r ≡ followOf b ⌝ }
+// Whether a row of the table begins with b.
+fn is_first(b: u8) -> bool
+    ensures { λ r. ⌜ r ≡ begins table b ⌝ }
 {
-    pick(
-        b < 0x80,
-        0,
-        pick(
-            b < 0xc2,
-            4,
-            pick(b < 0xe0, 1, pick(b < 0xf0, 2, pick(b < 0xf5, 3, 4))),
-        ),
-    )
-}
-
-// a where c holds, else b.
-fn pick(c: bool, a: usize, b: usize) -> usize
-    ensures { λ r. ⌜ r ≡ cond c a b ⌝ }
-{
-    if c { a } else { b }
+    (b <= 0x7f) | ((0xc2 <= b) & (b <= 0xf4))
 }
