@@ -42,7 +42,8 @@ pub fn forms() -> Vec<Input> {
         Input::one("one long expression", mixed::expression(LONG)),
         Input::one("deep nesting", deep()),
         Input::one("many names", names()),
-        Input::one("long strings and comments", texts()),
+        Input::one("long strings and comments", texts(ENGLISH)),
+        Input::one("the same with accents", texts(FRENCH)),
         Input::one("blank lines between statements", blank_lines()),
         Input::one("2,000 trailing blank lines", trailing()),
     ]
@@ -129,9 +130,12 @@ fn name(dice: &mut Dice) -> String {
     name
 }
 
+const ENGLISH: &str = "the pipes of the Swell are borrowed from the Great ";
+/// Not ASCII, so that it takes the whole text test.
+const FRENCH: &str = "les tuyaux du Récit sont empruntés à ceux du Positif ";
+
 /// Strings and comments of about a thousand bytes each.
-fn texts() -> String {
-    let phrase = "the pipes of the Swell are borrowed from the Great ";
+fn texts(phrase: &str) -> String {
     let unit = format!(
         "# {}\nlet remark = \"{}\"\n",
         phrase.repeat(20).trim(),

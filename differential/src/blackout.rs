@@ -29,7 +29,7 @@ pub struct Report {
     pub bytes: u64,
     /// How many pairs had each outcome, by the original's whole reading; `?` where it can't be
     /// asked.
-    pub outcomes: BTreeMap<String, u64>,
+    pub outcomes: BTreeMap<u32, u64>,
     /// The same for the library's, into equally large tables with other old contents.
     pub library: BTreeMap<u32, u64>,
     /// For each clause, how many pairs broke it, and how many of these were read differently.
@@ -105,11 +105,10 @@ impl Report {
             return Err(told("a permitted change is refused", first, second));
         }
         let read = Tables::original(first);
-        if read.is_some() && read != Tables::original(second) {
+        if read != Tables::original(second) {
             return Err(told("a permitted pair is read differently", first, second));
         }
-        let outcome = read.map_or("?".to_string(), |t| t.answer[0].to_string());
-        *self.outcomes.entry(outcome).or_default() += 1;
+        *self.outcomes.entry(read.answer[0]).or_default() += 1;
         let bytes = first.iter().zip(second).filter(|(b, c)| b != c).count();
         self.pairs += 1;
         self.different += u64::from(bytes > 0);
@@ -239,12 +238,9 @@ fn tables(reading: &ReadAnswer, fill: u32) -> Result<Tables, String> {
     })
 }
 
-/// Whether the original reads the two differently, as far as it can be asked.
+/// Whether the original reads the two differently.
 fn reads_differently(first: &[u8], second: &[u8]) -> bool {
-    match (Tables::original(first), Tables::original(second)) {
-        (Some(a), Some(b)) => a != b,
-        _ => false,
-    }
+    Tables::original(first) != Tables::original(second)
 }
 
 fn told(what: &str, first: &[u8], second: &[u8]) -> String {

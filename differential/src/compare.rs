@@ -5,7 +5,7 @@ use std::slice;
 
 use crate::host::{Answer, DecodeAnswer, DecodeCall, Host, LexAnswer, LexCall, ReadCall, Request};
 use crate::whole::{read_differs, Wanted};
-use expected::lexing::{expect, Decoding, Error, Expected, Lexing, Token};
+use expected::lexing::{expect, Decoding, Error, Lexing, Token};
 use expected::mixed_dice::Dice;
 use expected::records::{outcome, ERROR_WORDS, TOKEN_WORDS};
 
@@ -20,17 +20,9 @@ pub struct Trial {
 
 #[derive(Debug, Clone)]
 pub enum Call {
-    Lex(LexCall, Want),
+    Lex(LexCall, Lexing),
     Decode(DecodeCall, Decoding),
     Read(ReadCall, Wanted),
-}
-
-/// What a lexing must come to.
-#[derive(Debug, Clone)]
-pub enum Want {
-    Exact(Lexing),
-    /// Any answer that keeps to its tables.
-    Open,
 }
 
 /// A call whose answer isn't the expected one.
@@ -64,44 +56,33 @@ impl Trial {
     pub fn whole(source: &[u8]) -> Trial {
         let mut dice = Dice::of(source);
         let mut trial = Trial::new(source, &mut dice);
-        match expect(source) {
-            Expected::Exact(lexing, texts) => {
-                // Sometimes exactly enough, sometimes with records to spare.
-                let token_room = lexing.tokens.len() + dice.below(3);
-                let error_room = lexing.errors.len() + dice.below(3);
-                let call = LexCall {
-                    token_words: TOKEN_WORDS * token_room + dice.below(TOKEN_WORDS),
-                    error_words: ERROR_WORDS * error_room + dice.below(ERROR_WORDS),
-                    fill: dice.word() as u32,
-                };
-                trial.calls.push(Call::Lex(call, Want::Exact(lexing)));
-                // Each decoding tests the whole source first: in a long one that has thousands of
-                // strings, some of them have to do.
-                let step = if source.len() > 8192 {
-                    texts.len() / 32 + 1
-                } else {
-                    1
-                };
-                for text in texts.into_iter().step_by(step) {
-                    let call = DecodeCall {
-                        start: text.start as u64,
-                        room: text.bytes.len() + dice.below(4),
-                        fill: dice.word() as u8,
-                    };
-                    let bytes = text.bytes;
-                    let outcome = outcome::DONE;
-                    let want = Decoding { outcome, bytes };
-                    trial.calls.push(Call::Decode(call, want));
-                }
-            }
-            Expected::Open => {
-                let call = LexCall {
-                    token_words: TOKEN_WORDS * (source.len() + 2),
-                    error_words: ERROR_WORDS * source.len(),
-                    fill: dice.word() as u32,
-                };
-                trial.calls.push(Call::Lex(call, Want::Open));
-            }
+        let (lexing, texts) = expect(source);
+        // Sometimes exactly enough, sometimes with records to spare.
+        let token_room = lexing.tokens.len() + dice.below(3);
+        let error_room = lexing.errors.len() + dice.below(3);
+        let call = LexCall {
+            token_words: TOKEN_WORDS * token_room + dice.below(TOKEN_WORDS),
+            error_words: ERROR_WORDS * error_room + dice.below(ERROR_WORDS),
+            fill: dice.word() as u32,
+        };
+        trial.calls.push(Call::Lex(call, lexing));
+        // Each decoding tests the whole source first: in a long one that has thousands of strings,
+        // some of them have to do.
+        let step = if source.len() > 8192 {
+            texts.len() / 32 + 1
+        } else {
+            1
+        };
+        for text in texts.into_iter().step_by(step) {
+            let call = DecodeCall {
+                start: text.start as u64,
+                room: text.bytes.len() + dice.below(4),
+                fill: dice.word() as u8,
+            };
+            let bytes = text.bytes;
+            let outcome = outcome::DONE;
+            let want = Decoding { outcome, bytes };
+            trial.calls.push(Call::Decode(call, want));
         }
         trial
     }
@@ -165,16 +146,10 @@ fn ask(host: &mut Host, trials: &[Trial]) -> Result<Option<(usize, Difference)>,
 /// Compares one answer; if it differs, a text that shows how.
 fn check(call: &Call, answer: &Answer) -> Option<String> {
     match (call, answer) {
-        (Call::Lex(call, Want::Exact(lexing)), Answer::Lex(answer)) => {
+        (Call::Lex(call, lexing), Answer::Lex(answer)) => {
             let what = lex_differs(call, lexing, answer)?;
             let mut text = format!("call: {call:?}\ndiffers: {what}\n");
             show(&mut text, "expected", lexing);
-            show_answer(&mut text, call, answer);
-            Some(text)
-        }
-        (Call::Lex(call, Want::Open), Answer::Lex(answer)) => {
-            let what = open_differs(call, answer)?;
-            let mut text = format!("call: {call:?}\ndiffers: {what}\n");
             show_answer(&mut text, call, answer);
             Some(text)
         }
@@ -234,23 +209,6 @@ pub fn table_differs(table: &[u32], words: &[u32], fill: u32) -> Option<usize> {
     }
     let same = table.iter().zip(words).take_while(|(a, b)| a == b);
     Some(same.count())
-}
-
-/// A source that the original can't read gets an answer, and its tables are kept to.
-fn open_differs(call: &LexCall, answer: &LexAnswer) -> Option<&'static str> {
-    let unchanged = |table: &[u32], words: usize| {
-        let rest = table.get(words..);
-        rest.is_some_and(|rest| rest.iter().all(|&word| word == call.fill))
-    };
-    if !matches!(answer.outcome, outcome::DONE | outcome::POINT_AT_END) {
-        Some("the outcome, which must be 0 or 2")
-    } else if !unchanged(&answer.token_table, TOKEN_WORDS * answer.tokens as usize) {
-        Some("the token table behind the records")
-    } else if !unchanged(&answer.error_table, ERROR_WORDS * answer.errors as usize) {
-        Some("the error table behind the records")
-    } else {
-        (!answer.intact).then_some("the guards round the tables")
-    }
 }
 
 fn decode_differs(

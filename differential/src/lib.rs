@@ -1,8 +1,8 @@
 //! The differential test: the Rattle library, through its C border, against the original Rust.
 //!
 //! `cargo test -p differential` compares a sample, `cargo run --release -p differential -- lex
-//! COUNT SEED` as many lexings as are wanted, with `read` whole readings. All need the Rattle
-//! toolchain's `rt` on the PATH: it builds the library.
+//! COUNT SEED` as many lexings as are wanted, with `read` whole readings, with `text` the text test.
+//! All need the Rattle toolchain's `rt` on the PATH: it builds the library.
 
 pub mod blackout;
 pub mod compare;
@@ -15,6 +15,7 @@ pub mod patterns;
 pub mod refusals;
 pub mod run;
 pub mod show;
+pub mod text;
 pub mod whole;
 
 use compare::{Difference, Trial};

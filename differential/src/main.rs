@@ -1,6 +1,8 @@
 //! `differential lex COUNT SEED` and `differential read COUNT SEED` are the long runs;
-//! `differential blackout COUNT SEED` tries what may be blacked out; `differential show FILE` prints what the library makes of a script.
+//! `differential blackout COUNT SEED` tries what may be blacked out; `differential text` holds the text test against Rust's own;
+//! `differential show FILE` prints what the library makes of a script.
 
+use std::fmt::Display;
 use std::io::Write as _;
 use std::process::ExitCode;
 
@@ -8,7 +10,7 @@ use differential::compare::Difference;
 use differential::host::Host;
 use differential::run::Comparison;
 use differential::show::show;
-use differential::{blackout, lex, read, ReadSizes, Sizes};
+use differential::{blackout, lex, read, text, ReadSizes, Sizes};
 use oracle::on_large_stack;
 use vectors::blackout::pairs::random;
 
@@ -35,9 +37,12 @@ fn main() -> ExitCode {
             _ => usage(),
         },
         ["blackout", count, seed] => match (count.parse(), seed.parse()) {
-            (Ok(count), Ok(seed)) => black_out(count, seed),
+            (Ok(count), Ok(seed)) => {
+                tell(blackout::blackout(Some(&mut Host::start()), count, seed))
+            }
             _ => usage(),
         },
+        ["text"] => tell(text::compare(3)),
         ["show", file] => print(file),
         _ => usage(),
     }
@@ -70,11 +75,11 @@ fn compare(all: impl FnOnce(&mut Comparison) -> Result<(), Difference>) -> ExitC
     }
 }
 
-/// Tries demand 3 on random pairs and prints what was tried.
-fn black_out(count: usize, seed: u64) -> ExitCode {
-    match blackout::blackout(Some(&mut Host::start()), count, seed) {
+/// Prints what was tried, or what went wrong.
+fn tell(outcome: Result<impl Display, String>) -> ExitCode {
+    match outcome {
         Ok(report) => {
-            println!("{report}no difference");
+            println!("{report}\nno difference");
             ExitCode::SUCCESS
         }
         Err(difference) => {
@@ -105,6 +110,7 @@ fn usage() -> ExitCode {
          differential read COUNT SEED: compares whole readings of COUNT generated scripts and more\n\
          differential blackout COUNT SEED: tries COUNT pairs that may be blacked out\n\
          differential blackout random COUNT SEED: prints COUNT random ones for the prover\n\
+         differential text: compares the text test on every sequence of up to three bytes and more\n\
          differential show FILE: prints the tokens and errors of a script"
     );
     ExitCode::from(2)

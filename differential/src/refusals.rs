@@ -1,9 +1,9 @@
 //! Calls that must be refused, and calls at the edge of it: short tables, the greatest length, the
 //! text test, and decoding.
 
-use crate::compare::{Call, Trial, Want};
+use crate::compare::{Call, Trial};
 use crate::host::{DecodeCall, LexCall};
-use expected::lexing::{expect, expect_decoding, Expected, Lexing, LONGEST};
+use expected::lexing::{expect, expect_decoding, Lexing, LONGEST};
 use expected::mixed_dice::Dice;
 use expected::records::{ERROR_WORDS, TOKEN_WORDS};
 
@@ -12,9 +12,7 @@ use expected::records::{ERROR_WORDS, TOKEN_WORDS};
 pub fn rooms(source: &[u8]) -> Trial {
     let mut dice = Dice::of(source);
     let mut trial = Trial::new(source, &mut dice);
-    let Expected::Exact(full, _) = expect(source) else {
-        return trial;
-    };
+    let (full, _) = expect(source);
     let (tokens, errors) = (full.tokens.len() + 1, full.errors.len() + 1);
     for tail in 0..TOKEN_WORDS {
         for room in 0..=tokens {
@@ -48,16 +46,15 @@ impl Trial {
             error_words,
             fill: dice.word() as u32,
         };
-        self.calls.push(Call::Lex(call, Want::Exact(want)));
+        self.calls.push(Call::Lex(call, want));
     }
 
-    /// Adds a decoding, if it is known what it comes to.
+    /// Adds a decoding.
     fn decode(&mut self, start: u64, room: usize, dice: &mut Dice) {
-        if let Some(want) = expect_decoding(&self.source, start, room) {
-            let fill = dice.word() as u8;
-            let call = DecodeCall { start, room, fill };
-            self.calls.push(Call::Decode(call, want));
-        }
+        let want = expect_decoding(&self.source, start, room);
+        let fill = dice.word() as u8;
+        let call = DecodeCall { start, room, fill };
+        self.calls.push(Call::Decode(call, want));
     }
 }
 
@@ -67,8 +64,7 @@ pub fn decodings(source: &[u8]) -> Trial {
     let mut dice = Dice::of(source);
     let mut trial = Trial::new(source, &mut dice);
     for start in 0..source.len() as u64 + 2 {
-        let decoded = expect_decoding(source, start, usize::MAX);
-        let exact = decoded.map_or(0, |decoding| decoding.bytes.len());
+        let exact = expect_decoding(source, start, usize::MAX).bytes.len();
         let mut rooms = vec![0, exact.saturating_sub(1), exact, exact + 1, exact + 9];
         rooms.dedup();
         for room in rooms {
@@ -86,12 +82,11 @@ pub fn decodings(source: &[u8]) -> Trial {
 pub fn sizes(source: &[u8]) -> Trial {
     let mut dice = Dice::of(source);
     let mut trial = Trial::whole(source);
-    if let Expected::Exact(full, _) = expect(source) {
-        trial.lex(&full, 0, 0, &mut dice);
-        trial.lex(&full, 30, 10, &mut dice);
-        let needed = TOKEN_WORDS * full.tokens.len();
-        trial.lex(&full, needed.saturating_sub(1), 10, &mut dice);
-    }
+    let (full, _) = expect(source);
+    trial.lex(&full, 0, 0, &mut dice);
+    trial.lex(&full, 30, 10, &mut dice);
+    let needed = TOKEN_WORDS * full.tokens.len();
+    trial.lex(&full, needed.saturating_sub(1), 10, &mut dice);
     for start in [0, 1, source.len().saturating_sub(1)] {
         trial.decode(start as u64, 8, &mut dice);
     }
@@ -127,11 +122,12 @@ pub fn about_the_longest() -> impl Iterator<Item = Vec<u8>> {
 /// Byte strings at every boundary of the text test: all first bytes, each followed by up to three
 /// bytes on both sides of the limits for bytes that follow.
 pub fn text_edges() -> impl Iterator<Item = Vec<u8>> {
-    const FOLLOW: [u8; 8] = [0x00, 0x22, 0x7f, 0x80, 0x90, 0xbf, 0xc0, 0xff];
+    const FOLLOW: [u8; 9] = [0x00, 0x22, 0x7f, 0x80, 0x8f, 0x90, 0x9f, 0xa0, 0xbf];
+    const COUNT: usize = FOLLOW.len();
     (0..=255u8).flat_map(|first| {
         (0..4u32).flat_map(move |behind| {
-            (0..8usize.pow(behind)).map(move |number| {
-                let follow = |place: u32| FOLLOW[number / 8usize.pow(place) % 8];
+            (0..COUNT.pow(behind)).map(move |number| {
+                let follow = |place: u32| FOLLOW[number / COUNT.pow(place) % COUNT];
                 [first].into_iter().chain((0..behind).map(follow)).collect()
             })
         })
@@ -143,9 +139,8 @@ pub fn text_edges() -> impl Iterator<Item = Vec<u8>> {
 pub fn text_edge(source: &[u8]) -> Trial {
     let mut dice = Dice::of(source);
     let mut trial = Trial::whole(source);
-    if let Expected::Exact(full, _) = expect(source) {
-        trial.lex(&full, dice.below(30), dice.below(12), &mut dice);
-    }
+    let (full, _) = expect(source);
+    trial.lex(&full, dice.below(30), dice.below(12), &mut dice);
     trial.decode(dice.below(6) as u64, dice.below(4), &mut dice);
     trial
 }

@@ -5,7 +5,7 @@ use std::collections::{BTreeMap, BTreeSet};
 use std::fmt;
 use std::time::Instant;
 
-use crate::compare::{run, Call, Difference, Trial, Want};
+use crate::compare::{run, Call, Difference, Trial};
 use crate::host::{Host, ReadCall};
 use crate::whole::Wanted;
 use expected::records::{error, node};
@@ -29,7 +29,7 @@ pub struct Comparison {
 pub struct Group {
     pub name: &'static str,
     pub scripts: u64,
-    /// How many calls there were of each function and outcome, `?` where any answer would do.
+    /// How many calls there were of each function and outcome.
     pub calls: BTreeMap<String, u64>,
     /// The messages and the kinds of nodes in what whole readings must keep.
     pub messages: BTreeSet<u32>,
@@ -42,8 +42,7 @@ impl Group {
         self.scripts += 1;
         for call in &trial.calls {
             let name = match call {
-                Call::Lex(_, Want::Exact(lexing)) => format!("lex {}", lexing.outcome),
-                Call::Lex(_, Want::Open) => "lex ?".to_string(),
+                Call::Lex(_, lexing) => format!("lex {}", lexing.outcome),
                 Call::Decode(_, decoding) => format!("decode {}", decoding.outcome),
                 Call::Read(ReadCall { pair: true, .. }, wanted) => {
                     format!("pair {}", wanted.outcome())
@@ -167,7 +166,7 @@ impl Comparison {
     }
 }
 
-/// A script's letters, or its bytes if it is no Rust string.
+/// A script's letters, or its bytes if it is no text.
 fn units(script: &[u8]) -> Vec<Vec<u8>> {
     match std::str::from_utf8(script) {
         Ok(text) => text.chars().map(|c| c.to_string().into_bytes()).collect(),

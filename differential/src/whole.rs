@@ -3,9 +3,7 @@
 use std::fmt::Write as _;
 use std::rc::Rc;
 
-use expected::records::{
-    outcome, Error, Node, Token, ERROR_WORDS, NODE_WORDS, TOKEN_WORDS, WIDTHS,
-};
+use expected::records::{Error, Node, Token, ERROR_WORDS, NODE_WORDS, TOKEN_WORDS, WIDTHS};
 use expected::whole::{known, Answer, Known, Whole};
 use kettleplume::Rooms;
 
@@ -23,17 +21,14 @@ pub enum Wanted {
     Exact(Answer, Option<Rc<Whole>>),
     /// A refusal that keeps nothing and leaves all tables as they were.
     Refused(u32),
-    /// Any answer that keeps to its tables; the original can't be asked.
-    Open,
 }
 
 impl Wanted {
     /// The outcome, for counting.
-    pub fn outcome(&self) -> String {
+    pub fn outcome(&self) -> u32 {
         match self {
-            Wanted::Exact(answer, _) => answer.outcome.to_string(),
-            Wanted::Refused(outcome) => outcome.to_string(),
-            Wanted::Open => "?".to_string(),
+            Wanted::Exact(answer, _) => answer.outcome,
+            Wanted::Refused(outcome) => *outcome,
         }
     }
 }
@@ -50,7 +45,6 @@ enum Kept {
     Read(Rc<Whole>),
     Refused(u32),
     Told(Answer),
-    Nothing,
 }
 
 impl Tried {
@@ -63,7 +57,6 @@ impl Tried {
                 Kept::Read(Rc::new(*whole))
             }
             Known::Refused(outcome) => Kept::Refused(outcome),
-            Known::Nothing => Kept::Nothing,
         };
         Tried { known, dice, trial }
     }
@@ -78,15 +71,12 @@ impl Tried {
         }
     }
 
-    /// The rooms that the reading needs; for what the original can't be asked, enough for any
-    /// script of that length.
+    /// The rooms that the reading needs.
     pub fn needs(&self) -> [usize; 3] {
-        let length = self.trial.source.len();
         match &self.known {
             Kept::Read(whole) => whole.needs(),
             Kept::Refused(_) => [2, 1, 2],
             Kept::Told(answer) => [answer.tokens.len(), answer.errors.len(), answer.nodes.len()],
-            Kept::Nothing => [length + 2, 2 * length + 2, 2 * length + 2],
         }
     }
 
@@ -109,7 +99,6 @@ impl Tried {
             Kept::Read(whole) => Wanted::Exact(whole.within(rooms), Some(whole.clone())),
             Kept::Refused(outcome) => Wanted::Refused(*outcome),
             Kept::Told(answer) => Wanted::Exact(answer.clone(), None),
-            Kept::Nothing => Wanted::Open,
         };
         // Each read of one statement looks at all tokens: in a long script that takes long.
         if self.trial.source.len() <= LONG {
@@ -151,7 +140,6 @@ pub fn read_differs(call: &ReadCall, wanted: &Wanted, answer: &ReadAnswer) -> Op
     let what = match wanted {
         Wanted::Exact(expected, whole) => exact_differs(call, expected, whole.as_deref(), answer),
         Wanted::Refused(outcome) => refused_differs(call, *outcome, answer),
-        Wanted::Open => open_differs(call, answer),
     }?;
     let mut text = format!("call: {call:?}\ndiffers: {what}\n");
     if let Wanted::Exact(expected, _) = wanted {
@@ -249,29 +237,6 @@ fn refused_differs(call: &ReadCall, outcome: u32, answer: &ReadAnswer) -> Option
         Some("the counts, which must be 0".to_string())
     } else {
         words_differ(answer, [(&[], call.fill); 3])
-    }
-}
-
-/// A source that the original can't read gets an answer, and its tables are kept to.
-fn open_differs(call: &ReadCall, answer: &ReadAnswer) -> Option<String> {
-    let behind = |table: &[u32], width: usize, count: u32, fill| {
-        let rest = table.get(width * count as usize..);
-        rest.is_some_and(|rest| rest.iter().all(|&word| word == fill))
-    };
-    if matches!(answer.outcome, outcome::NO_TEXT | outcome::TOO_LONG)
-        || answer.outcome > outcome::TOO_DEEP
-    {
-        Some("the outcome".to_string())
-    } else if !behind(&answer.token_table, TOKEN_WORDS, answer.tokens, call.fill) {
-        Some("the token table behind the records".to_string())
-    } else if !behind(&answer.error_table, ERROR_WORDS, answer.errors, call.fill) {
-        Some("the error table behind the records".to_string())
-    } else if !behind(&answer.node_table, NODE_WORDS, answer.nodes, 0) {
-        Some("the node table behind the records".to_string())
-    } else if !answer.steady {
-        Some("a read behind the final answer".to_string())
-    } else {
-        (!answer.intact).then(|| "the guards round the tables".to_string())
     }
 }
 

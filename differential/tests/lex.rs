@@ -5,7 +5,7 @@ use differential::compare::Difference;
 use differential::host::Host;
 use differential::run::Comparison;
 use differential::show::show;
-use differential::{edges, scripts_of_all_kinds, Sizes};
+use differential::{edges, scripts_of_all_kinds, text, Sizes};
 
 const SEED: u64 = 1;
 
@@ -25,6 +25,18 @@ fn scripts() {
 #[test]
 fn refusals() {
     compare(edges);
+}
+
+/// Up to two bytes every sequence, up to four those of the table's boundaries; three bytes take too
+/// long for the gate.
+#[test]
+fn the_text_test_is_rusts_own() {
+    let report = text::compare(2).unwrap_or_else(|e| panic!("{e}"));
+    assert_eq!(
+        report.sequences,
+        1 + 256 + 256 * 256 + 24u64.pow(3) + 24u64.pow(4)
+    );
+    assert!(report.texts > 20_000, "{report}");
 }
 
 /// Here and not with the other tests of blacking out: a process builds the library once.

@@ -4,6 +4,8 @@
 //! two tokens stand only blanks, comments and what its errors are about. So each record is known
 //! in full before the library is asked.
 
+use std::ops::RangeInclusive;
+
 use oracle::state::InterpreterError;
 use oracle::token::{Literal, TokenData};
 use oracle::{message_number, Reading, Stop};
@@ -33,46 +35,54 @@ pub struct Text {
     pub bytes: Vec<u8>,
 }
 
-/// What is known about a source.
-#[derive(Debug, Clone)]
-pub enum Expected {
-    /// The answer, if there is room enough, and the strings' texts.
-    Exact(Lexing, Vec<Text>),
-    /// It passes the text test but is no Rust string: the original can't be asked.
-    Open,
-}
-
-/// The answer to a source of any bytes: 4 is tested first, then 3.
-pub fn expect(source: &[u8]) -> Expected {
-    let refused = |outcome| Expected::Exact(Lexing::refused(outcome), vec![]);
+/// The answer to a source of any bytes if there is room enough, and the strings' texts: 4 is tested
+/// first, then 3.
+pub fn expect(source: &[u8]) -> (Lexing, Vec<Text>) {
+    let refused = |outcome| (Lexing::refused(outcome), vec![]);
     if source.len() > LONGEST {
         refused(outcome::TOO_LONG)
     } else if !is_text(source) {
         refused(outcome::NO_TEXT)
-    } else if let Ok(script) = std::str::from_utf8(source) {
-        let (lexing, texts) = Lexing::of(script);
-        Expected::Exact(lexing, texts)
     } else {
-        Expected::Open
+        Lexing::of(rust_string(source))
     }
 }
 
-/// The text test: 00..7F alone; C2..DF with one byte 80..BF; E0..EF with two; F0..F4 with three.
+/// A row of the Unicode Standard's table of well-formed UTF-8 byte sequences (Table 3-7): what each
+/// byte may be.
+pub type Row = &'static [RangeInclusive<u8>];
+
+/// The table, in the Standard's order.
+pub const WELL_FORMED: [Row; 9] = [
+    &[0x00..=0x7f],
+    &[0xc2..=0xdf, 0x80..=0xbf],
+    &[0xe0..=0xe0, 0xa0..=0xbf, 0x80..=0xbf],
+    &[0xe1..=0xec, 0x80..=0xbf, 0x80..=0xbf],
+    &[0xed..=0xed, 0x80..=0x9f, 0x80..=0xbf],
+    &[0xee..=0xef, 0x80..=0xbf, 0x80..=0xbf],
+    &[0xf0..=0xf0, 0x90..=0xbf, 0x80..=0xbf, 0x80..=0xbf],
+    &[0xf1..=0xf3, 0x80..=0xbf, 0x80..=0xbf, 0x80..=0xbf],
+    &[0xf4..=0xf4, 0x80..=0x8f, 0x80..=0xbf, 0x80..=0xbf],
+];
+
+/// The text test: the bytes are rows of the table, one after the other.
 pub fn is_text(mut bytes: &[u8]) -> bool {
-    while let Some((&first, rest)) = bytes.split_first() {
-        let follow = match first {
-            0x00..=0x7f => 0,
-            0xc2..=0xdf => 1,
-            0xe0..=0xef => 2,
-            0xf0..=0xf4 => 3,
-            _ => return false,
-        };
-        if rest.len() < follow || rest[..follow].iter().any(|b| !(0x80..=0xbf).contains(b)) {
+    while !bytes.is_empty() {
+        let Some(row) = WELL_FORMED.iter().find(|row| begins_with(bytes, row)) else {
             return false;
-        }
-        bytes = &rest[follow..];
+        };
+        bytes = &bytes[row.len()..];
     }
     true
+}
+
+fn begins_with(bytes: &[u8], row: Row) -> bool {
+    bytes.len() >= row.len() && row.iter().zip(bytes).all(|(range, b)| range.contains(b))
+}
+
+/// What passes the text test, as the original takes it.
+pub(crate) fn rust_string(source: &[u8]) -> &str {
+    std::str::from_utf8(source).expect("what passes the text test is a Rust string")
 }
 
 impl Lexing {
@@ -265,14 +275,10 @@ impl<'a> Walk<'a> {
 /// What decoding a string at a place comes to: 4 and 3 come first, then 9 unless a string stands
 /// there, then 10 if the buffer is too short. The original reads the string as the first thing of
 /// a script of its own.
-///
-/// Nothing is known about a source that passes the text test and is no Rust string.
-pub fn expect_decoding(source: &[u8], start: u64, room: usize) -> Option<Decoding> {
-    let refused = |outcome| {
-        Some(Decoding {
-            outcome,
-            bytes: vec![],
-        })
+pub fn expect_decoding(source: &[u8], start: u64, room: usize) -> Decoding {
+    let refused = |outcome| Decoding {
+        outcome,
+        bytes: vec![],
     };
     if source.len() > LONGEST {
         return refused(outcome::TOO_LONG);
@@ -280,7 +286,7 @@ pub fn expect_decoding(source: &[u8], start: u64, room: usize) -> Option<Decodin
     if !is_text(source) {
         return refused(outcome::NO_TEXT);
     }
-    let script = std::str::from_utf8(source).ok()?;
+    let script = rust_string(source);
     let from_start = usize::try_from(start).ok().and_then(|at| script.get(at..));
     let Some(from_start) = from_start.filter(|rest| rest.starts_with('"')) else {
         return refused(outcome::NO_STRING);
@@ -291,10 +297,10 @@ pub fn expect_decoding(source: &[u8], start: u64, room: usize) -> Option<Decodin
     }
     match reading.tokens.into_iter().next().and_then(|t| t.literal) {
         Some(Literal::String(text)) if text.len() > room => refused(outcome::BUFFER_ROOM),
-        Some(Literal::String(text)) => Some(Decoding {
+        Some(Literal::String(text)) => Decoding {
             outcome: outcome::DONE,
             bytes: text.into_bytes(),
-        }),
+        },
         other => panic!("the original reads {other:?} in {from_start:?}"),
     }
 }

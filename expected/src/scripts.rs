@@ -220,6 +220,7 @@ pub const SMALL: &[(&str, u32, [usize; 3], [usize; 3])] = &[
     ("a = 1", 7, [5, 0, 2], [5, 0, 0]),
     ("fn f(a) b", 7, [9, 0, 3], [8, 0, 0]),
     ("\u{c1}\u{80}", 3, [3, 3, 3], [0, 0, 0]),
+    ("#\u{ed}\u{a0}\u{80}\n", 3, [3, 3, 3], [0, 0, 0]),
 ];
 
 /// Ways to open levels, with the most that are read: what opens one, how often, what stands

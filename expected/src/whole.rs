@@ -9,7 +9,7 @@ use oracle::stmt::Stmt;
 use oracle::token::TokenData;
 use oracle::{Reading, Stop};
 
-use crate::lexing::{self, is_text, Error, Lexing, Token, LONGEST};
+use crate::lexing::{self, is_text, rust_string, Error, Lexing, Token, LONGEST};
 use crate::marks;
 use crate::nodes::{Node, Nodes};
 use crate::records::{node, outcome};
@@ -61,8 +61,6 @@ pub enum Known {
     Refused(u32),
     /// Read.
     Read(Box<Whole>),
-    /// It passes the text test but is no Rust string: the original can't be asked.
-    Nothing,
 }
 
 /// Reads a source of any bytes: 4 is tested first, then 3.
@@ -71,10 +69,8 @@ pub fn known(source: &[u8]) -> Known {
         Known::Refused(outcome::TOO_LONG)
     } else if !is_text(source) {
         Known::Refused(outcome::NO_TEXT)
-    } else if let Ok(script) = std::str::from_utf8(source) {
-        Known::Read(Box::new(Whole::of(script)))
     } else {
-        Known::Nothing
+        Known::Read(Box::new(Whole::of(rust_string(source))))
     }
 }
 

@@ -9,11 +9,7 @@ use crate::records::{self, message, outcome, sort};
 use crate::state::InterpreterError;
 use crate::token::{Literal, Token, TokenData};
 
-/// The token of a record. Its text is the source's where it stands; what of it isn't UTF-8 in Rust's
-/// eyes becomes U+FFFD.
-///
-/// The library's text test takes some bytes for text that Rust doesn't, such as the surrogate ED A0
-/// 80. They can stand only in strings and comments.
+/// The token of a record. Its text is the source's where it stands.
 pub fn token(source: &[u8], record: &records::Token) -> TokenData {
     let &[kind, start, length, line, sort, low, high, ..] = record;
     let (start, length) = (start as usize, length as usize);
@@ -47,8 +43,10 @@ fn decoded(string: &[u8], length: usize) -> String {
     text(&buffer)
 }
 
+/// A source that is read is a Rust string, and so are its tokens and what its strings stand for.
 fn text(bytes: &[u8]) -> String {
-    String::from_utf8_lossy(bytes).into_owned()
+    let text = std::str::from_utf8(bytes).expect("a part of a text");
+    text.to_string()
 }
 
 /// The error of a record.

@@ -163,6 +163,12 @@ fn no_text() {
         1,
         &["s.gr: not read: the file is no text: its bytes are not UTF-8, first in line 2"],
     );
+    // What a scanner delivered once: a surrogate, in a comment.
+    reports(
+        b"let a = 1\n\nlet b = a # \xed\xa0\x80\n",
+        1,
+        &["s.gr: not read: the file is no text: its bytes are not UTF-8, first in line 3"],
+    );
 }
 
 #[test]
@@ -413,23 +419,6 @@ fn control_characters_are_not_printed() {
             "       = the script ends at line 2",
             "s.gr: read, 1 statement, 2 errors",
         ],
-    );
-}
-
-/// The text test lets a surrogate through. It is one letter, and its bytes are not printed.
-#[test]
-fn text_that_is_not_utf8() {
-    let head = "s.gr:2:7: Illegal character";
-    let line = "     2 | let b � = \"�\"";
-    let mark = "       |       ^";
-    let byte = |n| format!("       = no character: ED A0 80, byte {n} of 3");
-    let bytes = [byte(1), byte(2), byte(3)];
-    let mut lines: Vec<&str> = bytes.iter().flat_map(|b| [head, line, mark, b]).collect();
-    lines.push("s.gr: read, 1 statement, 3 errors");
-    reports(
-        b"# \xed\xa0\x80\nlet b \xed\xa0\x80 = \"\xed\xa0\x80\"\n",
-        1,
-        &lines,
     );
 }
 

@@ -84,6 +84,7 @@ fn refusals_keep_nothing() {
     for (source, error) in [
         (b"a = \x80\n".to_vec(), Error::NoText),
         (b"a = \xc3".to_vec(), Error::NoText),
+        (b"a = \"x\xed\xa0\x80y\"\n".to_vec(), Error::NoText),
         (vec![b' '; 65_536], Error::TooLong),
         (vec![0xff; 65_536], Error::TooLong),
     ] {
@@ -92,18 +93,6 @@ fn refusals_keep_nothing() {
         let kept = [script.tokens.len(), script.errors.len(), script.stmts.len()];
         assert_eq!(kept, [0, 0, 0], "{error}");
     }
-}
-
-/// The text test passes bytes that Rust's doesn't. They become U+FFFD, as `from_utf8_lossy` has it.
-#[test]
-fn bytes_that_are_text_for_the_library_alone() {
-    let script = read(b"a = \"x\xed\xa0\x80y\" # \xed\xa0\x80\n");
-    assert_eq!(script.end, Ok(()));
-    let string = &script.tokens[2];
-    assert_eq!(string.lexeme, "\"x\u{fffd}\u{fffd}\u{fffd}y\"");
-    let literal = format!("{:?}", string.literal);
-    assert_eq!(literal, "Some(String(\"x\u{fffd}\u{fffd}\u{fffd}y\"))");
-    assert_eq!((script.stmts.len(), script.errors.len()), (1, 0));
 }
 
 #[test]

@@ -50,7 +50,7 @@ pub fn add(sheet: &mut Sheet) {
     for script in scripts::fixed() {
         add_large(sheet, &script);
     }
-    for script in scripts::no_texts() {
+    for script in scripts::NO_TEXTS {
         add_large(sheet, script);
         add_script(sheet, script, 0, 0);
     }

@@ -115,7 +115,6 @@ impl Vectors {
         let (answer, behind) = match known(source) {
             Known::Read(whole) => (whole.within(rooms), 0),
             Known::Refused(outcome) => (refused(outcome), FILL),
-            Known::Nothing => panic!("what the original can't read is no vector"),
         };
         let [t, e, n] = sizes;
         self.stdin

@@ -1,8 +1,6 @@
-//! The vectors have all that they should have, and their judge of texts is what it says.
+//! The vectors have all that they should have.
 
 use std::collections::BTreeSet;
-use std::str::from_utf8;
-use vectors::leaves::text::is_text;
 
 /// Every vector has an answer with its letter, and no other line has one.
 #[test]
@@ -41,33 +39,4 @@ fn lexing_vectors_have_everything() {
     assert!(kinds.into_iter().eq(0..50));
     assert!(sorts.into_iter().eq(0..4));
     assert!(messages.into_iter().eq(1..4));
-}
-
-#[test]
-fn every_letter_of_rust_is_text() {
-    for letter in '\0'..=char::MAX {
-        let mut bytes = [0; 4];
-        assert!(
-            is_text(letter.encode_utf8(&mut bytes).as_bytes()),
-            "{letter:?}"
-        );
-    }
-}
-
-/// Up to two bytes the text test is Rust's own. With three it differs for a first byte E0 or ED
-/// only, of which Rust takes a part.
-#[test]
-fn short_texts_are_those_of_rust() {
-    for a in 0..=255 {
-        assert_eq!(is_text(&[a]), from_utf8(&[a]).is_ok());
-        for b in 0..=255 {
-            assert_eq!(is_text(&[a, b]), from_utf8(&[a, b]).is_ok());
-            for c in [0x00, 0x7f, 0x80, 0xbf, 0xc0, 0xff] {
-                let bytes = [a, b, c];
-                let differs = is_text(&bytes) != from_utf8(&bytes).is_ok();
-                let apart = (a == 0xe0 && b < 0xa0) || (a == 0xed && b >= 0xa0);
-                assert!(!differs || apart, "{bytes:02x?}");
-            }
-        }
-    }
 }

@@ -36,6 +36,8 @@ pairs =
     pair "#ÿ" "#a" false false ∷  -- the first is no text
     pair "#a" "#ÿ" false false ∷  -- the second is no text
     pair "\"Ã©\"" "\"Ãa\"" false false ∷  -- half a letter
+    pair "#â\u{82}¬\n" "#í\u{a0}\u{80}\n" false false ∷  -- a comment's letter, and a surrogate
+    pair "\"ô\u{8f}¿¿\"" "\"ô\u{90}\u{80}\u{80}\"" false false ∷  -- a string's letter, and more than the last
     pair "1" "2" false false ∷  -- a number
     pair "a+b" "a b" false false ∷  -- a mark
     pair "Ã©" "ab" false false ∷  -- a letter outside of strings

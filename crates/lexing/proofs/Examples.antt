@@ -58,3 +58,8 @@ full = refl
 no-text : lexedOf (193 ∷ 128 ∷ []) 9 9 ≡ is 3 0 0 [] []
 unfolding lexedOf isText
 no-text = refl
+
+-- nor is ED A0 80, in a comment: nothing is kept, not even what stands before it
+surrogate : lexedOf (97 ∷ 35 ∷ 0xed ∷ 0xa0 ∷ 0x80 ∷ 10 ∷ []) 9 9 ≡ is 3 0 0 [] []
+unfolding lexedOf isText
+surrogate = refl

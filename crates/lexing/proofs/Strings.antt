@@ -53,3 +53,8 @@ past-end = refl
 not-closed : decodeOf (34 ∷ 97 ∷ []) 0 9 ≡ refused 9
 unfolding isText decodeOf
 not-closed = refl
+
+-- a source that is no text, whatever stands at the start: 3 comes before 9 and 10
+no-text : decodeOf (34 ∷ 97 ∷ 34 ∷ 35 ∷ 0xed ∷ 0xa0 ∷ 0x80 ∷ []) 0 0 ≡ refused 3
+unfolding isText decodeOf
+no-text = refl

@@ -1,7 +1,6 @@
 //! Letters: the pieces of a text that count as one character, and what is shown of them.
 //!
-//! The reader's text test lets bytes through that are no characters (surrogates, overlong forms, values
-//! past 10FFFF), and a script may hold control characters. Neither may reach a terminal.
+//! A script may hold control characters, and none of them may reach a terminal.
 
 use std::char::REPLACEMENT_CHARACTER;
 
@@ -10,8 +9,8 @@ use std::char::REPLACEMENT_CHARACTER;
 pub struct Letter {
     /// How many bytes it has.
     pub length: usize,
-    /// Its character, unless its bytes are none.
-    pub char: Option<char>,
+    /// Its character; U+FFFD for bytes that are none, which only a source has that was not read.
+    pub char: char,
     /// What is shown for it: one character. A tab stays a tab.
     pub shown: char,
     /// How many columns it takes: none, if it is drawn over the letter before it, else one.
@@ -23,28 +22,23 @@ pub fn first(bytes: &[u8]) -> Option<Letter> {
     match bytes {
         [] => None,
         // Most are such, and a report may look at millions.
-        [byte @ b' '..=b'~', ..] => Some(Letter::of(1, Some(char::from(*byte)))),
+        [byte @ b' '..=b'~', ..] => Some(Letter::of(1, char::from(*byte))),
         [_, rest @ ..] => {
             let length = 1 + rest.iter().take_while(|byte| continues(**byte)).count();
             let text = std::str::from_utf8(&bytes[..length]).ok();
             let char = text.and_then(|text| text.chars().next());
-            Some(Letter::of(length, char))
+            Some(Letter::of(length, char.unwrap_or(REPLACEMENT_CHARACTER)))
         }
     }
 }
 
 impl Letter {
-    fn of(length: usize, char: Option<char>) -> Letter {
-        let over = char.is_some_and(is_drawn_over);
-        let shown = match char {
-            Some(c) if over => c,
-            Some(c) => visible(c),
-            None => REPLACEMENT_CHARACTER,
-        };
+    fn of(length: usize, char: char) -> Letter {
+        let over = is_drawn_over(char);
         Letter {
             length,
             char,
-            shown,
+            shown: if over { char } else { visible(char) },
             width: usize::from(!over),
         }
     }
@@ -127,15 +121,10 @@ mod tests {
 
     #[test]
     fn bytes_that_are_no_character_are_one_letter() {
-        for bytes in [
-            &b"\xed\xa0\x80"[..],
-            b"\xe0\x80\x80",
-            b"\xf0\x80\x80\x80",
-            b"\xf4\x90\x80\x80",
-        ] {
+        for bytes in [&b"\xed\xa0\x80"[..], b"\xf4\x90\x80\x80", b"\xff"] {
             let letter = first(bytes).expect("there are bytes");
             assert_eq!(letter.length, bytes.len());
-            assert_eq!((letter.char, letter.shown), (None, '\u{fffd}'));
+            assert_eq!((letter.char, letter.shown), ('\u{fffd}', '\u{fffd}'));
             assert_eq!(letter.width, 1);
         }
     }

@@ -95,13 +95,8 @@ fn character(source: &[u8], pos: usize) -> String {
         return String::new();
     };
     let what = match letter.char {
-        Some(' '..='~') => return String::new(),
-        Some(c) => format!("U+{:04X}", c as u32),
-        None => {
-            let bytes = &source[start..start + letter.length];
-            let bytes: Vec<String> = bytes.iter().map(|b| format!("{b:02X}")).collect();
-            format!("no character: {}", bytes.join(" "))
-        }
+        ' '..='~' => return String::new(),
+        c => format!("U+{:04X}", c as u32),
     };
     excerpt::note(&match letter.length {
         1 => what,

@@ -106,7 +106,7 @@ fn columns(source: &[u8]) -> Vec<usize> {
         let column = (next + letter.width - 1).max(1);
         columns.resize(columns.len() + letter.length, column);
         next = match letter.char {
-            Some('\n') => 1,
+            '\n' => 1,
             _ => column + 1,
         };
     }

@@ -112,6 +112,18 @@ pub const PAIRS: &[Pair] = &[
         b"\"\xc3a\"",
         Needed(Clause::SecondText),
     ),
+    (
+        "a comment's letter, and a surrogate",
+        b"#\xe2\x82\xac\n",
+        b"#\xed\xa0\x80\n",
+        Needed(Clause::SecondText),
+    ),
+    (
+        "a string's letter, and more than the last",
+        b"\"\xf4\x8f\xbf\xbf\"",
+        b"\"\xf4\x90\x80\x80\"",
+        Needed(Clause::SecondText),
+    ),
     ("a number", b"1", b"2", Needed(Clause::Only)),
     ("a mark", b"a+b", b"a b", Needed(Clause::Only)),
     (

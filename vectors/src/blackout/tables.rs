@@ -1,6 +1,6 @@
 //! A reading as words: the answer and the kept records of each table.
 
-use expected::lexing::{expect, Expected};
+use expected::lexing::expect;
 use expected::records::outcome;
 
 use crate::definition::answer;
@@ -16,25 +16,20 @@ pub struct Tables {
 }
 
 impl Tables {
-    /// The original's whole reading, with room enough; nothing for text that is no Rust string,
-    /// where it can't be asked.
-    pub fn original(source: &[u8]) -> Option<Tables> {
-        let Expected::Exact(lexing, _) = expect(source) else {
-            return None;
-        };
+    /// The original's whole reading, with room enough.
+    pub fn original(source: &[u8]) -> Tables {
+        let (lexing, _) = expect(source);
         let tokens = lexing.tokens.concat();
-        let Some(script) = std::str::from_utf8(source)
-            .ok()
-            .filter(|_| !matches!(lexing.outcome, outcome::NO_TEXT | outcome::TOO_LONG))
-        else {
+        if matches!(lexing.outcome, outcome::NO_TEXT | outcome::TOO_LONG) {
             // What is refused keeps nothing.
             let answer = vec![lexing.outcome, 0, 0, 0, 0];
-            return Some(Tables::kept(answer, tokens, vec![], vec![]));
-        };
+            return Tables::kept(answer, tokens, vec![], vec![]);
+        }
+        let script = std::str::from_utf8(source).expect("what is read is a Rust string");
         let mut rows = answer(script);
         let head = rows.remove(0);
         let nodes = rows.split_off(head[2] as usize);
-        Some(Tables::kept(head, tokens, rows.concat(), nodes.concat()))
+        Tables::kept(head, tokens, rows.concat(), nodes.concat())
     }
 
     fn kept(answer: Vec<u32>, tokens: Vec<u32>, errors: Vec<u32>, nodes: Vec<u32>) -> Tables {

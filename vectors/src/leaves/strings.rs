@@ -5,7 +5,6 @@
 //! The judge is a direct rendering of rule 5 and of document 01's paragraph on decoding. What it
 //! says of a valid text is compared with the original.
 
-use crate::leaves::text::is_text;
 use crate::leaves::FAR;
 use crate::sheet::{hex, Sheet};
 use expected::dice::Dice;
@@ -118,7 +117,7 @@ fn decode(source: &[u8], start: usize, room: usize) -> (u32, Vec<u8>) {
     if source.len() > LONGEST {
         return (outcome::TOO_LONG, vec![]);
     }
-    if !is_text(source) {
+    if std::str::from_utf8(source).is_err() {
         return (outcome::NO_TEXT, vec![]);
     }
     if source.get(start) != Some(&b'"') {

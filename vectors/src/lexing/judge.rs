@@ -3,7 +3,6 @@
 
 use crate::leaves::numbers::numeral;
 use crate::leaves::strings::string;
-use crate::leaves::text::{following, is_text};
 use crate::sheet::hex;
 use expected::records::message::{LEXERS, UNCLOSED};
 use expected::records::token::SHOWN;
@@ -57,11 +56,11 @@ fn keep(source: &[u8], token_room: usize, error_room: usize) -> Kept {
         kept.outcome = outcome::TOO_LONG;
         return kept;
     }
-    if !is_text(source) {
+    let Ok(script) = std::str::from_utf8(source) else {
         kept.outcome = outcome::NO_TEXT;
         return kept;
-    }
-    for event in events(source) {
+    };
+    for event in events(script) {
         match event {
             Event::Cut => kept.outcome = outcome::POINT_AT_END,
             Event::Token(..) if kept.tokens.len() == token_room => {
@@ -83,9 +82,9 @@ fn keep(source: &[u8], token_room: usize, error_room: usize) -> Kept {
 /// The original's tokens and errors, each put where the source has it. The original tells where an
 /// error stands but not where a token does, so the source is walked: the next token is the first
 /// that no blank, comment or error takes, and its bytes must be there.
-fn events(source: &[u8]) -> Vec<Event> {
-    let script = stand_in(source);
-    let reading = oracle::read(&script);
+fn events(script: &str) -> Vec<Event> {
+    let source = script.as_bytes();
+    let reading = oracle::read(script);
     let mut tokens = reading.tokens.iter();
     let mut errors = reading
         .errors
@@ -136,12 +135,12 @@ fn event(token: &TokenData, source: &[u8], place: Range<usize>) -> Event {
 }
 
 /// Kind, start, length and line of each token of a text.
-pub fn token_words(source: &[u8]) -> Vec<[u32; SHOWN]> {
+pub fn token_words(script: &str) -> Vec<[u32; SHOWN]> {
     let words = |event| match event {
         Event::Token(_, words) => Some(words),
         _ => None,
     };
-    events(source).into_iter().filter_map(words).collect()
+    events(script).into_iter().filter_map(words).collect()
 }
 
 /// The number of an error's message.
@@ -149,29 +148,11 @@ fn message(error: &InterpreterError) -> u32 {
     message_number(&error.message).expect("a message of the original")
 }
 
-/// A script for the original. The text test lets in groups that are no letter of Rust: another
-/// letter of the same size stands for each, since lexing treats all of them alike.
-fn stand_in(source: &[u8]) -> String {
-    let mut script = String::new();
-    let mut rest = source;
-    while let Some(first) = rest.first() {
-        let (group, next) = rest.split_at(1 + following(*first).expect("a text"));
-        script += match (std::str::from_utf8(group), group.len()) {
-            (Ok(letter), _) => letter,
-            (Err(_), 3) => "\u{20ac}",
-            (Err(_), _) => "\u{1f600}",
-        };
-        rest = next;
-    }
-    assert_eq!(script.len(), source.len());
-    script
-}
-
 /// The fields of a token that stands for these bytes.
 fn record(token: &TokenData, bytes: &[u8]) -> String {
     let value = match &token.literal {
         None => format!("{} 0", sort::NONE),
-        Some(Literal::String(text)) => format!("{} {}", sort::TEXT, hex(&restored(text, bytes))),
+        Some(Literal::String(text)) => format!("{} {}", sort::TEXT, hex(text.as_bytes())),
         Some(Literal::Number(_)) if numeral(bytes).is_long() => format!("{} 0", sort::LONG),
         Some(Literal::Number(value)) => {
             let bits = value.to_bits();
@@ -181,19 +162,4 @@ fn record(token: &TokenData, bytes: &[u8]) -> String {
     };
     let (kind, line) = (token.token as u32, token.line);
     format!("t {kind} {} {line} {value}", hex(bytes))
-}
-
-/// A decoded text with the source's own bytes where letters stood for them: no escape touches a
-/// byte that is not ASCII, so these are the same in the same order.
-fn restored(text: &str, bytes: &[u8]) -> Vec<u8> {
-    let mut own = bytes.iter().copied().filter(|b| !b.is_ascii());
-    text.bytes()
-        .map(|b| {
-            if b.is_ascii() {
-                b
-            } else {
-                own.next().expect("as many bytes")
-            }
-        })
-        .collect()
 }
