@@ -195,8 +195,8 @@ mod tests {
             b"{",
             b"\xc3\xbb",
             b"u\xcc\x82",
-            b"\xed\xa0\x80",
-            b"\xf4\x90\x80\x80",
+            b"\xed\x9f\xbf",
+            b"\xf4\x8f\xbf\xbf",
             b"\xe2\x80\xae",
             b"\"\\\n",
         ];
