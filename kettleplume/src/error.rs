@@ -14,7 +14,7 @@ pub enum Error {
     Stopped,
     /// 2: a number with a point runs to the last byte of the script.
     PointAtEnd,
-    /// 3: the bytes are no text.
+    /// 3: the bytes are no text, which is what Rust takes as a `str`.
     NoText,
     /// 4: more than 65,535 bytes.
     TooLong,

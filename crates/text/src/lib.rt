@@ -88,12 +88,14 @@ impl Due {
         }
     }
 
-    // What follows a first byte, by the rows of the table; nothing where no row begins with b.
+    // What follows a first byte, by the rows of the table; nothing where no row begins with b. Most bytes are of the first row.
     fn behind(b: u8) -> Self
         ensures { λ r. ⌜ columnsOf r ≡ behind table b ⌝ }
     {
+        if b < 0x80 {
+            return Due::none();
+        }
         match b {
-            0x00..=0x7f => Due::none(),
             0xc2..=0xdf => Due::bytes(1, 0x80, 0xbf),
             0xe0 => Due::bytes(2, 0xa0, 0xbf),
             0xe1..=0xec => Due::bytes(2, 0x80, 0xbf),
