@@ -44,6 +44,10 @@ abbrev rising : ℕ → List Row → Bool
 rising n [] = true
 rising n (r ∷ rows) = leb n (r .first .from) && (leb (r .first .from) (r .first .to) && rising (suc (r .first .to)) rows)
 
+-- so no byte begins two rows of the table
+pub table-rises : T (rising 0 table)
+table-rises = tt
+
 -- no byte begins it
 abbrev pub noRow : Row
 noRow = row (1 ‥ 0) []
@@ -80,7 +84,7 @@ found (r ∷ rows) n (suc k) b h t =
 
 -- what follows a byte that row k of the table begins with
 pub row-of : (k b : ℕ) → T (has (getD table k noRow .first) b) → behind table b ≡ getD table k noRow .others
-row-of k b t = found table 0 k b tt t .1
+row-of k b t = found table 0 k b table-rises t .1
 
 -- two columns side by side are one
 join : (a m z b : ℕ) (rest : Bool) → a ≤ suc m → m ≤ z → (has (a ‥ m) b || (has (suc m ‥ z) b || rest)) ≡ (has (a ‥ z) b || rest)

@@ -60,6 +60,7 @@ impl Due {
         Due::bytes(0, 0x80, 0xbf)
     }
 
+    // So many, the next of them from low to high.
     fn bytes(left: usize, low: u8, high: u8) -> Self
         ensures { λ r. ⌜ r ≡ record { left = left; low = low; high = high } ⌝ }
     {
