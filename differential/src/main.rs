@@ -79,7 +79,7 @@ fn compare(all: impl FnOnce(&mut Comparison) -> Result<(), Difference>) -> ExitC
 fn tell(outcome: Result<impl Display, String>) -> ExitCode {
     match outcome {
         Ok(report) => {
-            println!("{report}\nno difference");
+            println!("{report}no difference");
             ExitCode::SUCCESS
         }
         Err(difference) => {

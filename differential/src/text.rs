@@ -22,7 +22,7 @@ pub struct Report {
 impl fmt::Display for Report {
     fn fmt(&self, f: &mut fmt::Formatter) -> fmt::Result {
         let Report { sequences, texts } = self;
-        write!(f, "{sequences} sequences, {texts} of them text")
+        writeln!(f, "{sequences} sequences, {texts} of them text")
     }
 }
 
