@@ -168,7 +168,7 @@ fn comment(dice: &mut Dice, script: &mut String) {
 }
 
 /// One to three damages to a script: a byte removed, doubled or exchanged, a quote or a backslash
-/// put in, the end cut off. What comes out needn't be a Rust string, nor text.
+/// put in, the end cut off. What comes out needn't be text.
 pub fn damaged(dice: &mut Dice, mut script: Vec<u8>) -> Vec<u8> {
     for _ in 0..1 + dice.below(3) {
         if script.is_empty() {

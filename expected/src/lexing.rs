@@ -81,7 +81,7 @@ fn begins_with(bytes: &[u8], row: Row) -> bool {
 }
 
 /// What passes the text test, as the original takes it.
-pub(crate) fn rust_string(source: &[u8]) -> &str {
+pub fn rust_string(source: &[u8]) -> &str {
     std::str::from_utf8(source).expect("what passes the text test is a Rust string")
 }
 

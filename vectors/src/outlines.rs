@@ -6,6 +6,7 @@
 use std::path::PathBuf;
 use std::{fs, iter};
 
+use expected::lexing::rust_string;
 use expected::records::outcome;
 use oracle::on_large_stack;
 
@@ -45,8 +46,7 @@ pub fn outline(source: &[u8], ends: Option<(u32, [usize; 3])>) -> String {
         iter::zip(counts, ROOMS).all(|(count, room)| count <= room),
         "more than outline has room for"
     );
-    let text = std::str::from_utf8(source).expect("what is read is a Rust string");
-    let tokens = &on_large_stack(|| token_words(text))[..counts[0]];
+    let tokens = &on_large_stack(|| token_words(rust_string(source)))[..counts[0]];
     let (errors, nodes) = words[1..].split_at(counts[1]);
     let mut out = line('o', &words[0]);
     out.extend(tokens.iter().map(|token| line('t', token)));

@@ -1,6 +1,6 @@
 //! A reading as words: the answer and the kept records of each table.
 
-use expected::lexing::expect;
+use expected::lexing::{expect, rust_string};
 use expected::records::outcome;
 
 use crate::definition::answer;
@@ -25,8 +25,7 @@ impl Tables {
             let answer = vec![lexing.outcome, 0, 0, 0, 0];
             return Tables::kept(answer, tokens, vec![], vec![]);
         }
-        let script = std::str::from_utf8(source).expect("what is read is a Rust string");
-        let mut rows = answer(script);
+        let mut rows = answer(rust_string(source));
         let head = rows.remove(0);
         let nodes = rows.split_off(head[2] as usize);
         Tables::kept(head, tokens, rows.concat(), nodes.concat())
