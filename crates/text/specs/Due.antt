@@ -5,7 +5,7 @@ use lib.ListN.{replicate}
 use Rattle.text.specs.Text.{Bytes, _‥_}
 use Rattle.text.specs.declared.Due.{Due}
 
--- the next column, and after it so many more
+-- so many columns: the next, and behind it 80..BF
 abbrev pub columns : ℕ → Bytes → List Bytes
 columns zero next = []
 columns (suc n) next = next ∷ replicate n (0x80 ‥ 0xbf)
