@@ -1,3 +1,5 @@
 pub mod Same
 pub mod Sized
+pub mod Spelled
 pub mod Range
+pub mod Page

@@ -2,14 +2,15 @@
 use mathlib.Core.Path.{_≡_, refl, sym, ap, _∙_}
 use mathlib.Core.Bool.{Bool, true, false, cond}
 use mathlib.Core.List.{List, [], _∷_}
-use Prim.Native.Nat.{ℕ, _≤_, _-_}
-use native.Mathlib.Nat.{sub-eq-zero-of-le}
+use Prim.Native.Nat.{ℕ, _≤_, _-_, min}
+use native.Mathlib.Nat.{sub-eq-zero-of-le, min-eq-left, min-eq-right}
 use native.Mathlib.Omega.{arith}
-use borrow.Author.Tests.{eqb-false, ne-eqb}
-use lib.Dec.{eqb}
-use lib.ListN.{length, take, drop, length-drop, drop-of-length-le}
-use lib.Seq.{take-all, take-nil}
-use Rattle.token.specs.Keyword.{same, Entry, lookup, table, keep, sized, keywordOf, part}
+use borrow.Author.Tests.{eqb-false, ne-eqb, leb-true, leb-false}
+use lib.Dec.{eqb, leb}
+use lib.ListN.{length, take, drop, length-drop}
+use lib.Seq.{take-all}
+use Rattle.token.specs.Keyword.{same, Entry, lookup, table, keywordOf, part}
+use Rattle.token.specs.Page.{keep, sized}
 use Rattle.token.proofs.Same.{same-length}
 
 by-length : (w : List ℕ) (ks : List Entry) → lookup w ks ≡ lookup w (sized (length w) ks)
@@ -33,20 +34,19 @@ no-length w a b c d e f =
     sym (of-length w (length w) refl)
     ∙ simp (ne-eqb _ _ a, ne-eqb _ _ b, ne-eqb _ _ c, ne-eqb _ _ d, ne-eqb _ _ e, ne-eqb _ _ f)
 
--- ---- one row of the decision: where the test is that of the row's word, and what is left is decided
-pub chosen : (t s : Bool) (r k b b′ : ℕ) → r ≡ cond t k b → t ≡ s → b ≡ b′ → r ≡ cond s k b′
-chosen t s r k b b′ is test rest = is ∙ ap (λ (x : Bool). cond x k b) test ∙ ap (λ (n : ℕ). cond s k n) rest
-
 -- ---- a part that the source does not have whole
 pub part-none : (a e : ℕ) (s : List ℕ) → e ≤ a → keywordOf (part a e s) ≡ 25
 unfolding keywordOf
 part-none a e s h = rw (sub-eq-zero-of-le h)
 
-pub part-past : (a e : ℕ) (s : List ℕ) → length s ≤ a → keywordOf (part a e s) ≡ 25
-unfolding keywordOf
-part-past a e s h = rw (drop-of-length-le s h, take-nil)
-
-pub part-rest : (a e : ℕ) (s : List ℕ) → length s ≤ e → part a e s ≡ take (length s - a) (drop a s)
-part-rest a e s h =
-    let l = length-drop a s in
-    take-all (e - a) (drop a s) (omega arith) ∙ sym (take-all (length s - a) (drop a s) (omega arith))
+-- what lies past the source is no part of it
+pub part-min : (a e : ℕ) (s : List ℕ) → part a (min e (length s)) s ≡ part a e s
+part-min a e s = go (leb e (length s)) refl
+  where
+    go : (t : Bool) → leb e (length s) ≡ t → part a (min e (length s)) s ≡ part a e s
+    go true h = rw (min-eq-left (leb-true _ _ h))
+    go false h =
+        let l = length-drop a s in
+        let k = leb-false e (length s) h in
+        let m : length s ≤ e = omega arith in
+        rw (min-eq-right m) (take-all (length s - a) (drop a s) (omega arith) ∙ sym (take-all (e - a) (drop a s) (omega arith)))

@@ -1,9 +1,9 @@
 -- Rule 3 of document 01: names among the 22 in `keywords` take that kind, every other name is an Identifier.
-use Prim.Native.Nat.{ℕ, _-_}
+use Prim.Native.Nat.{ℕ, _+_, _-_, _*_}
 use mathlib.Core.Bool.{Bool, true, false, _&&_, cond}
 use mathlib.Core.List.{List, [], _∷_}
 use lib.Dec.{eqb}
-use lib.ListN.{length, take, drop}
+use lib.ListN.{take, drop}
 use Rattle.token.specs.Kind as kinds
 
 -- the bytes of s from a up to e, as far as s has them
@@ -58,12 +58,7 @@ table =
 unfoldable pub keywordOf : List ℕ → ℕ
 keywordOf w = lookup w table
 
--- ---- the decision by length: the rows whose word has n bytes
-abbrev pub keep : Bool → Entry → List Entry → List Entry
-keep true k ks = k ∷ ks
-keep false k ks = ks
-
--- the entries whose word has n bytes
-abbrev pub sized : ℕ → List Entry → List Entry
-sized n [] = []
-sized n (k ∷ ks) = keep (eqb n (length (k .word))) k (sized n ks)
+-- the letters s as one number behind n: a byte each, the first the highest
+abbrev pub lettersFrom : ℕ → List ℕ → ℕ
+lettersFrom n [] = n
+lettersFrom n (b ∷ s) = lettersFrom (n * 256 + b) s

@@ -1,7 +1,8 @@
 // The token type of token.rs: the kind numbers, named here once, and the kind of a name.
 ghost use mathlib.Core.Path.{_≡_};
-ghost use mathlib.Core.Bool.{cond};
-ghost use Rattle.token.specs.Keyword.{same, lookup, sized, table, keywordOf, part};
+ghost use Prim.Native.Nat.{min, _≤_};
+ghost use lib.ListN.{length};
+ghost use Rattle.token.specs.Keyword.{keywordOf, part, lettersFrom};
 
 // A token's kind: its place in the `Token` enum, EOF 0 to Catch 49.
 pub struct Token {
@@ -113,19 +114,10 @@ impl Token {
     pub fn keyword(s: &[u8], a: usize, e: usize) -> Self
         ensures { λ r. ⌜ r .kind ≡ keywordOf (part a e (now (s .entry))) ⌝ }
     {
-        if e <= s.len() {
-            if a <= e {
-                return Token {
-                    kind: keywords(&s[a..e]),
-                };
-            }
+        let e = smaller(e, s.len());
+        if a <= e {
             return Token {
-                kind: Token::IDENTIFIER,
-            };
-        }
-        if a <= s.len() {
-            return Token {
-                kind: keywords(&s[a..]),
+                kind: keywords(&s[a..e]),
             };
         }
         Token {
@@ -134,142 +126,74 @@ impl Token {
     }
 }
 
-// The decision over the 22 words of `keywords` in lexer.rs: by length first, which leaves six words at most, then by letters in the table's order.
+// The decision over the 22 words of `keywords` in lexer.rs, on one page: by length first, then by letters, within a length in the
+// table's order. A word stands as the number that its letters make, two digits for each: a is 61, o 6f, p 70, z 7a. Behind it are its
+// kind, its row in the table and its letters. specs/Page.antt is the same page in letters that the prover reads.
 pub fn keywords(x: &[u8]) -> u32
     ensures { λ r. ⌜ r ≡ keywordOf (now (x .entry)) ⌝ }
 {
-    let n = x.len();
-    match n {
-        2 => two(x),
-        3 => three(x),
-        4 => four(x),
-        5 => five(x),
-        6 => six(x),
-        8 => eight(x),
+    match x.len() {
+        2 => match letters(x) {
+            0x66_6e => Token::FN, // 5 fn
+            0x69_66 => Token::IF, // 7 if
+            0x6f_72 => Token::OR, // 10 or
+            0x69_6e => Token::IN, // 20 in
+            _ => Token::IDENTIFIER,
+        },
+        3 => match letters(x) {
+            0x61_6e_64 => Token::AND, // 1 and
+            0x66_6f_72 => Token::FOR, // 6 for
+            0x6e_69_6c => Token::NIL, // 9 nil
+            0x6c_65_74 => Token::LET, // 17 let
+            0x6e_6f_74 => Token::NOT, // 19 not
+            0x74_72_79 => Token::TRY, // 21 try
+            _ => Token::IDENTIFIER,
+        },
+        4 => match letters(x) {
+            0x65_6c_73_65 => Token::ELSE, // 3 else
+            0x65_6c_69_66 => Token::ELIF, // 8 elif
+            0x74_68_69_73 => Token::THIS, // 15 this
+            0x74_72_75_65 => Token::TRUE, // 16 true
+            _ => Token::IDENTIFIER,
+        },
+        5 => match letters(x) {
+            0x63_6c_61_73_73 => Token::CLASS, // 2 class
+            0x66_61_6c_73_65 => Token::FALSE, // 4 false
+            0x62_72_65_61_6b => Token::BREAK, // 12 break
+            0x73_75_70_65_72 => Token::SUPER, // 14 super
+            0x77_68_69_6c_65 => Token::WHILE, // 18 while
+            0x63_61_74_63_68 => Token::CATCH, // 22 catch
+            _ => Token::IDENTIFIER,
+        },
+        6 => match letters(x) {
+            0x72_65_74_75_72_6e => Token::RETURN, // 11 return
+            _ => Token::IDENTIFIER,
+        },
+        8 => match letters(x) {
+            0x63_6f_6e_74_69_6e_75_65 => Token::CONTINUE, // 13 continue
+            _ => Token::IDENTIFIER,
+        },
         _ => Token::IDENTIFIER,
     }
 }
 
-fn two(x: &[u8]) -> u32
-    ensures { λ r. ⌜ r ≡ lookup (now (x .entry)) (sized 2 table) ⌝ }
+// The letters of x as one number, a byte each, the first the highest: eight of them fit.
+fn letters(x: &[u8]) -> u64
+    requires { ⌜ length (now x) ≤ 8 ⌝ }
+    ensures { λ r. ⌜ r ≡ lettersFrom 0 (now (x .entry)) ⌝ }
 {
-    pick(
-        equal(x, b"fn"),
-        Token::FN,
-        pick(
-            equal(x, b"if"),
-            Token::IF,
-            pick(
-                equal(x, b"or"),
-                Token::OR,
-                pick(equal(x, b"in"), Token::IN, Token::IDENTIFIER),
-            ),
-        ),
-    )
-}
-
-fn three(x: &[u8]) -> u32
-    ensures { λ r. ⌜ r ≡ lookup (now (x .entry)) (sized 3 table) ⌝ }
-{
-    pick(
-        equal(x, b"and"),
-        Token::AND,
-        pick(
-            equal(x, b"for"),
-            Token::FOR,
-            pick(
-                equal(x, b"nil"),
-                Token::NIL,
-                pick(
-                    equal(x, b"let"),
-                    Token::LET,
-                    pick(
-                        equal(x, b"not"),
-                        Token::NOT,
-                        pick(equal(x, b"try"), Token::TRY, Token::IDENTIFIER),
-                    ),
-                ),
-            ),
-        ),
-    )
-}
-
-fn four(x: &[u8]) -> u32
-    ensures { λ r. ⌜ r ≡ lookup (now (x .entry)) (sized 4 table) ⌝ }
-{
-    pick(
-        equal(x, b"else"),
-        Token::ELSE,
-        pick(
-            equal(x, b"elif"),
-            Token::ELIF,
-            pick(
-                equal(x, b"this"),
-                Token::THIS,
-                pick(equal(x, b"true"), Token::TRUE, Token::IDENTIFIER),
-            ),
-        ),
-    )
-}
-
-fn five(x: &[u8]) -> u32
-    ensures { λ r. ⌜ r ≡ lookup (now (x .entry)) (sized 5 table) ⌝ }
-{
-    pick(
-        equal(x, b"class"),
-        Token::CLASS,
-        pick(
-            equal(x, b"false"),
-            Token::FALSE,
-            pick(
-                equal(x, b"break"),
-                Token::BREAK,
-                pick(
-                    equal(x, b"super"),
-                    Token::SUPER,
-                    pick(
-                        equal(x, b"while"),
-                        Token::WHILE,
-                        pick(equal(x, b"catch"), Token::CATCH, Token::IDENTIFIER),
-                    ),
-                ),
-            ),
-        ),
-    )
-}
-
-fn six(x: &[u8]) -> u32
-    ensures { λ r. ⌜ r ≡ lookup (now (x .entry)) (sized 6 table) ⌝ }
-{
-    pick(equal(x, b"return"), Token::RETURN, Token::IDENTIFIER)
-}
-
-fn eight(x: &[u8]) -> u32
-    ensures { λ r. ⌜ r ≡ lookup (now (x .entry)) (sized 8 table) ⌝ }
-{
-    pick(equal(x, b"continue"), Token::CONTINUE, Token::IDENTIFIER)
-}
-
-// a where c holds, else b.
-fn pick(c: bool, a: u32, b: u32) -> u32
-    ensures { λ r. ⌜ r ≡ cond c a b ⌝ }
-{
-    if c { a } else { b }
-}
-
-// Whether x is w.
-fn equal(x: &[u8], w: &[u8]) -> bool
-    ensures { λ r. ⌜ r ≡ same (now (x .entry)) (now (w .entry)) ⌝ }
-{
-    if x.len() != w.len() {
-        return false;
-    }
+    let mut n: u64 = 0;
     let mut i = 0;
-    while i < w.len() {
-        if x[i] != w[i] {
-            return false;
-        }
+    while i < x.len() {
+        n = n * 256 + x[i] as u64;
         i += 1;
     }
-    true
+    n
+}
+
+// The smaller of two numbers.
+fn smaller(a: usize, b: usize) -> usize
+    ensures { λ r. ⌜ r ≡ min a b ⌝ }
+{
+    if a <= b { a } else { b }
 }
