@@ -1,4 +1,4 @@
--- The page is the table, another way round: its groups together are the 22 rows, each in the group of its length. Assumes nothing.
+-- The page is the table in another order: its groups together are the 22 rows, each in the group of its length. Assumes nothing.
 use mathlib.Core.Path.{_≡_, refl, sym, ap, _∙_}
 use mathlib.Core.Bool.{Bool, true, false, _&&_, _||_, cond}
 use mathlib.Core.List.{List, [], _∷_, _++_, map}
@@ -36,7 +36,7 @@ abbrev pub hasUpTo : List ℕ → ℕ → Bool
 hasUpTo js zero = true
 hasUpTo js (suc n) = has js (suc n) && hasUpTo js n
 
--- the page has 22 rows, the table has 22, and each of these is on the page: so none of them stands there twice
+-- the page has 22 rows, the table has 22, and each row of the table is on the page; so none stands there twice
 pub whole : (length places ≡ 22) × (length table ≡ 22) × T (hasUpTo places 22)
 whole = (refl, refl, tt)
 

@@ -1,4 +1,4 @@
--- Letters as a number. Assumes nothing.
+-- A name's letters as a number: among the words of its length the number tells which it is, or that it is none. Assumes nothing.
 use mathlib.Core.Path.{_≡_, refl, sym, ap, _∙_}
 use mathlib.Core.Bool.{Bool, true, false, _&&_, cond}
 use mathlib.Core.List.{List, [], _∷_}
@@ -18,8 +18,8 @@ use Rattle.token.specs.Page.{spelt, sized}
 use Rattle.token.proofs.Same.{same-true}
 use Rattle.token.proofs.Sized.{of-length}
 
--- ---- the code's loop
--- seven letters leave room for one more
+-- ---- the loop of `letters`
+-- after seven letters there is room for one more
 pub fits : (n i : ℕ) → n < 256 ^ i → i ≤ 7 → n < 2 ^ 56
 fits n i h k = let p : 256 ^ i ≤ 256 ^ 7 = pow-le-pow-right (lit< tt) k in omega arith
 
@@ -32,7 +32,7 @@ letters-more x i n h = rw (add-one, drop-cons x i 0)
 pub letters-end : (x : List ℕ) (i n : ℕ) → length x ≤ i → lettersFrom n (drop i x) ≡ n
 letters-end x i n h = rw (drop-of-length-le x h)
 
--- ---- a number has one word of a length
+-- ---- of one length no two words have the same number
 -- whether each is a byte
 abbrev bytes : List ℕ → Bool
 bytes [] = true
@@ -49,13 +49,13 @@ one-word p q (a ∷ x) (b ∷ w) f t l e =
     let o : a ≡ b = omega arith in
     (omega arith, rw (o, k))
 
--- a name with the letters' number and length is that word
+-- a name with the length and the number of a text is that text
 pub found : (s : String) (x : List ℕ) {n : ℕ} → ((i : ℕ) → Fits w8 (getD x i 0)) → T (bytes (spelt s)) → length x ≡ length (spelt s)
     → n ≡ lettersFrom 0 x → n ≡ lettersFrom 0 (spelt s) → keywordOf (spelt s) ≡ keywordOf x
 found s x f t l e h = ap keywordOf (sym (one-word 0 0 x (spelt s) f t l (sym e ∙ h) .1))
 
--- ---- and another number no word
--- n is no number of a word of ks, said in the order of a match's arms, behind A
+-- ---- a number that no word has
+-- A, and n is the number of no word of ks: a pair for each word, as a `match` has it in its last arm
 abbrev Apart : Type 0 → ℕ → List Entry → Type 0
 Apart A n [] = A
 Apart A n (k ∷ ks) = Apart (A × (n ≡ lettersFrom 0 (k .word) → ⊥)) n ks
@@ -68,6 +68,6 @@ none A n x (k ∷ ks) e a = go (same x (k .word)) refl (none (A × (n ≡ letter
     go true s r = absurd (r .0 .1 (e ∙ ap (lettersFrom 0) (same-true x (k .word) s)))
     go false s r = (r .0 .0, r .1)
 
--- a name of that length with another number than its words is no keyword
+-- a name of l letters whose number no word of l letters has is no keyword
 pub missed : (l : ℕ) (x : List ℕ) {n : ℕ} → length x ≡ l → n ≡ lettersFrom 0 x → Apart (Unit {0}) n (sized l table) → 25 ≡ keywordOf x
 missed l x {n} h e a = sym (sym (of-length x l h) ∙ none (Unit {0}) n x (sized l table) e a .1)

@@ -58,7 +58,7 @@ table =
 unfoldable pub keywordOf : List ℕ → ℕ
 keywordOf w = lookup w table
 
--- the letters s as one number behind n: a byte each, the first the highest
+-- n, and after it the letters s, as one number: a byte each, the first the highest
 abbrev pub lettersFrom : ℕ → List ℕ → ℕ
 lettersFrom n [] = n
 lettersFrom n (b ∷ s) = lettersFrom (n * 256 + b) s

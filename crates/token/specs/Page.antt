@@ -1,5 +1,5 @@
--- The 22 keywords on one page, as `keywords` in lib.rt decides: by length first, then by letters, within a length in the order of `table`. The number behind
--- a row is its place in the table. That the page is the table, and decides as it does, is proved in `proofs/Page.antt`.
+-- The 22 keywords on one page, as `keywords` in lib.rt decides: by length first, then by letters, within a length in the order of `table`. The number at
+-- a line's end is the word's row there. That the page is the table, and decides as the table does, is proved in `proofs/Page.antt`.
 use mathlib.Core.Bool.{Bool, true, false, cond}
 use mathlib.Core.List.{List, [], _∷_}
 use Prim.Native.Char.{code}

@@ -127,7 +127,7 @@ impl Token {
 }
 
 // The decision over the 22 words of `keywords` in lexer.rs, on one page: by length first, then by letters, within a length in the
-// table's order. A word stands as the number that its letters make, two digits for each: a is 61, o 6f, p 70, z 7a. Behind it are its
+// table's order. A word stands as the number that its letters make, two digits for each: a is 61, o 6f, p 70, z 7a. Then come its
 // kind, its row in the table and its letters. specs/Page.antt is the same page in letters that the prover reads.
 pub fn keywords(x: &[u8]) -> u32
     ensures { λ r. ⌜ r ≡ keywordOf (now (x .entry)) ⌝ }
