@@ -10,7 +10,7 @@ use lib.ListN.{length}
 use Rattle.token.specs.Keyword.{Entry, lookup}
 use Rattle.token.specs.Kind as kinds
 
--- the bytes of a text
+-- the letters of a text by their codes, which are bytes where it is ASCII
 abbrev pub spelt : String → List ℕ
 spelt []ˢ = []
 spelt (c ∷ˢ s) = code c ∷ spelt s
