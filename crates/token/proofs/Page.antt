@@ -8,7 +8,7 @@ use lib.Dec.{T, eqb}
 use lib.ListN.{length, getD}
 use Rattle.token.specs.Keyword.{Entry, lookup, table, keywordOf}
 use Rattle.token.specs.Kind as kinds
-use Rattle.token.specs.Page.{two, three, four, five, six, eight, page, decided, sized}
+use Rattle.token.specs.Page.{two, three, four, five, six, eight, decided, sized}
 use Rattle.token.proofs.Sized.{of-length, no-length}
 
 -- ---- by computation
@@ -28,16 +28,16 @@ pub placed : two ++ (three ++ (four ++ (five ++ (six ++ eight)))) ≡ map nth pl
 placed = refl
 
 -- whether i is one of them, and whether all from 1 to n are
-abbrev pub has : List ℕ → ℕ → Bool
-has [] i = false
-has (j ∷ js) i = eqb i j || has js i
+abbrev pub among : List ℕ → ℕ → Bool
+among [] i = false
+among (j ∷ js) i = eqb i j || among js i
 
-abbrev pub hasUpTo : List ℕ → ℕ → Bool
-hasUpTo js zero = true
-hasUpTo js (suc n) = has js (suc n) && hasUpTo js n
+abbrev pub allUpTo : List ℕ → ℕ → Bool
+allUpTo js zero = true
+allUpTo js (suc n) = among js (suc n) && allUpTo js n
 
 -- the page has 22 rows, the table has 22, and each row of the table is on the page; so none stands there twice
-pub whole : (length places ≡ 22) × (length table ≡ 22) × T (hasUpTo places 22)
+pub whole : (length places ≡ 22) × (length table ≡ 22) × T (allUpTo places 22)
 whole = (refl, refl, tt)
 
 -- ---- for every name the page decides as the table does

@@ -1,6 +1,6 @@
 -- A name's letters as a number: among the words of its length the number tells which it is, or that it is none. Assumes nothing.
 use mathlib.Core.Path.{_≡_, refl, sym, ap, _∙_}
-use mathlib.Core.Bool.{Bool, true, false, _&&_, cond}
+use mathlib.Core.Bool.{Bool, true, false, cond}
 use mathlib.Core.List.{List, [], _∷_}
 use Prim.Native.Nat.{ℕ, suc, _+_, _*_, _^_, _≤_, _<_}
 use Prim.Native.String.{String}
@@ -12,9 +12,10 @@ use mir.Val.{Fits}
 use lib.Dec.{T, ltb, ltb→lt, lit<}
 use lib.Ieee.Fits.{and-l, and-r}
 use lib.ListN.{length, getD, drop, drop-of-length-le}
+use lib.Pow.{areBytes}
 use lib.Seq.{drop-cons}
-use Rattle.token.specs.Keyword.{same, Entry, lookup, table, keywordOf, lettersFrom}
-use Rattle.token.specs.Page.{spelt, sized}
+use Rattle.token.specs.Keyword.{same, Entry, lookup, table, keywordOf}
+use Rattle.token.specs.Page.{spelt, sized, lettersFrom}
 use Rattle.token.proofs.Same.{same-true}
 use Rattle.token.proofs.Sized.{of-length}
 
@@ -33,24 +34,19 @@ pub letters-end : (x : List ℕ) (i n : ℕ) → length x ≤ i → lettersFrom 
 letters-end x i n h = rw (drop-of-length-le x h)
 
 -- ---- of one length no two words have the same number
--- whether each is a byte
-abbrev bytes : List ℕ → Bool
-bytes [] = true
-bytes (b ∷ s) = ltb b 256 && bytes s
-
-one-word : (p q : ℕ) (x w : List ℕ) → ((i : ℕ) → Fits w8 (getD x i 0)) → T (bytes w) → length x ≡ length w → lettersFrom p x ≡ lettersFrom q w → (p ≡ q) × (x ≡ w)
+one-word : (p q : ℕ) (x w : List ℕ) → ((i : ℕ) → Fits w8 (getD x i 0)) → T (areBytes w) → length x ≡ length w → lettersFrom p x ≡ lettersFrom q w → (p ≡ q) × (x ≡ w)
 one-word p q [] [] f t l e = (e, refl)
 one-word p q [] (b ∷ w) f t l e = absurd (omega arith)
 one-word p q (a ∷ x) [] f t l e = absurd (omega arith)
 one-word p q (a ∷ x) (b ∷ w) f t l e =
-    let (h, k) = one-word (p * 256 + a) (q * 256 + b) x w (λ i. f (suc i)) (and-r (ltb b 256) (bytes w) t) (omega arith) e in
+    let (h, k) = one-word (p * 256 + a) (q * 256 + b) x w (λ i. f (suc i)) (and-r (ltb b 256) (areBytes w) t) (omega arith) e in
     let g = f 0 in
-    let d = ltb→lt b 256 (and-l (ltb b 256) (bytes w) t) in
+    let d = ltb→lt b 256 (and-l (ltb b 256) (areBytes w) t) in
     let o : a ≡ b = omega arith in
     (omega arith, rw (o, k))
 
 -- a name with the length and the number of a text is that text
-pub found : (s : String) (x : List ℕ) {n : ℕ} → ((i : ℕ) → Fits w8 (getD x i 0)) → T (bytes (spelt s)) → length x ≡ length (spelt s)
+pub found : (s : String) (x : List ℕ) {n : ℕ} → ((i : ℕ) → Fits w8 (getD x i 0)) → T (areBytes (spelt s)) → length x ≡ length (spelt s)
     → n ≡ lettersFrom 0 x → n ≡ lettersFrom 0 (spelt s) → keywordOf (spelt s) ≡ keywordOf x
 found s x f t l e h = ap keywordOf (sym (one-word 0 0 x (spelt s) f t l (sym e ∙ h) .1))
 

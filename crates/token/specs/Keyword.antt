@@ -1,5 +1,5 @@
 -- Rule 3 of document 01: names among the 22 in `keywords` take that kind, every other name is an Identifier.
-use Prim.Native.Nat.{ℕ, _+_, _-_, _*_}
+use Prim.Native.Nat.{ℕ, _-_}
 use mathlib.Core.Bool.{Bool, true, false, _&&_, cond}
 use mathlib.Core.List.{List, [], _∷_}
 use lib.Dec.{eqb}
@@ -57,8 +57,3 @@ table =
 -- the kind of a name
 unfoldable pub keywordOf : List ℕ → ℕ
 keywordOf w = lookup w table
-
--- n, and after it the letters s, as one number: a byte each, the first the highest
-abbrev pub lettersFrom : ℕ → List ℕ → ℕ
-lettersFrom n [] = n
-lettersFrom n (b ∷ s) = lettersFrom (n * 256 + b) s

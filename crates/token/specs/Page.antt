@@ -3,7 +3,7 @@
 use mathlib.Core.Bool.{Bool, true, false, cond}
 use mathlib.Core.List.{List, [], _∷_}
 use Prim.Native.Char.{code}
-use Prim.Native.Nat.{ℕ}
+use Prim.Native.Nat.{ℕ, _+_, _*_}
 use Prim.Native.String.{String, [] as []ˢ, _∷_ as _∷ˢ_}
 use lib.Dec.{eqb}
 use lib.ListN.{length}
@@ -88,3 +88,9 @@ keep false k ks = ks
 abbrev pub sized : ℕ → List Entry → List Entry
 sized n [] = []
 sized n (k ∷ ks) = keep (eqb n (length (k .word))) k (sized n ks)
+
+-- ---- what stands in the code for a word
+-- n, and after it the letters s, as one number: a byte each, the first the highest
+abbrev pub lettersFrom : ℕ → List ℕ → ℕ
+lettersFrom n [] = n
+lettersFrom n (b ∷ s) = lettersFrom (n * 256 + b) s

@@ -2,7 +2,8 @@
 ghost use mathlib.Core.Path.{_≡_};
 ghost use Prim.Native.Nat.{min, _≤_};
 ghost use lib.ListN.{length};
-ghost use Rattle.token.specs.Keyword.{keywordOf, part, lettersFrom};
+ghost use Rattle.token.specs.Keyword.{keywordOf, part};
+ghost use Rattle.token.specs.Page.{lettersFrom};
 
 // A token's kind: its place in the `Token` enum, EOF 0 to Catch 49.
 pub struct Token {

@@ -4,7 +4,7 @@ use Prim.Native.Nat.{_-_, _^_, _≤_, _<_}
 use native.Mathlib.Omega.{arith}
 use lib.Dec.{lit<}
 use lib.ListN.{length, drop}
-use Rattle.token.specs.Keyword.{lettersFrom}
+use Rattle.token.specs.Page.{lettersFrom}
 use Rattle.token.proofs.Spelled.{fits, grows, letters-more, letters-end}
 use Rattle.token.proofs.letters.Statement.{statement}
 use Rattle.token.proofs.letters.Tie as tie
