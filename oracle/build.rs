@@ -1,6 +1,6 @@
 //! Makes the parser that `logged` runs: the unchanged `parser.rs` with calls put in that note when
-//! a node is finished, a level opens and a top-level statement is kept. Errors are noted by the
-//! state, which is `logged`'s own.
+//! a node is finished, a level opens and a top-level statement is kept, and with the token that each
+//! error is about, where the original has 0. Errors are noted by the state, which is `logged`'s own.
 
 use std::path::Path;
 use std::{env, fs};
@@ -54,6 +54,41 @@ const STATEMENTS: &[Edit] = &[(
     "Some(st) => self.state.keep(st),",
     1,
 )];
+
+/// The token whose line an error reports: the one at the cursor, but for break and continue the
+/// keyword, which is the token before the cursor, and for `=` that one, noted where it is looked at.
+const PLACES: &[Edit] = &[
+    (
+        "line: self.peek().line,\n            pos: 0,",
+        "line: self.peek().line,\n            pos: self.current,",
+        2,
+    ),
+    (
+        "line: self.peek().line,\n                pos: 0,",
+        "line: self.peek().line,\n                pos: self.current,",
+        2,
+    ),
+    (
+        "line: self.peek().line,\n                        pos: 0,",
+        "line: self.peek().line,\n                        pos: self.current,",
+        3,
+    ),
+    (
+        "line: keyword.line,\n                pos: 0,",
+        "line: keyword.line,\n                pos: self.current - 1,",
+        2,
+    ),
+    (
+        "            let equal = self.previous();\n",
+        "            let equal = self.previous();\n            let equal_at = self.current - 1;\n",
+        1,
+    ),
+    (
+        "line: equal.line,\n                    pos: 0,",
+        "line: equal.line,\n                    pos: equal_at,",
+        1,
+    ),
+];
 
 /// A name in a list has its node before the comma is looked for, a superclass before what follows
 /// its name. A block and a made-up Empty have no name to hang a call on.
@@ -132,7 +167,7 @@ fn main() {
     println!("cargo:rerun-if-changed=src/parser.rs");
     println!("cargo:rerun-if-changed=build.rs");
     let mut text = fs::read_to_string("src/parser.rs").expect("the parser is there");
-    for edits in [PATHS, LEVELS, STATEMENTS, SMALL_NODES] {
+    for edits in [PATHS, LEVELS, STATEMENTS, PLACES, SMALL_NODES] {
         for &(old, new, count) in edits {
             text = replaced(&text, old, new, count);
         }

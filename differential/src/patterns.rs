@@ -79,8 +79,9 @@ fn newlines_come_to(source: &[u8]) -> Answer {
         answer.so_far.push([0, 2 * n]);
     }
     if source.len() % 2 == 1 {
-        let line = source.len() as u32 + 1;
-        answer.errors.push([message::NEW_LINE, line, 0]);
+        // It is missed at EOF.
+        let end = source.len() as u32;
+        answer.errors.push([message::NEW_LINE, end + 1, end]);
     }
     answer.first = if statements == 0 { 0 } else { 2 };
     answer.statements = statements as usize;

@@ -1,10 +1,11 @@
 //! What a whole reading comes to, for tables of any size.
 //!
 //! The records come from the unchanged original. In which order nodes, errors and levels come it
-//! doesn't tell: that is the log of its copy with calls put in (`oracle::logged`), which has to
-//! agree with it in everything else.
+//! doesn't tell, nor which token an error of the parser is about: that is the log of its copy with
+//! calls put in (`oracle::logged`), which has to agree with it in everything else.
 
 use oracle::logged::{self, Event, Log};
+use oracle::state::InterpreterError;
 use oracle::stmt::Stmt;
 use oracle::token::TokenData;
 use oracle::{Reading, Stop};
@@ -12,7 +13,7 @@ use oracle::{Reading, Stop};
 use crate::lexing::{self, is_text, rust_string, Error, Lexing, Token, LONGEST};
 use crate::marks;
 use crate::nodes::{Node, Nodes};
-use crate::records::{node, outcome};
+use crate::records::{self, message, node, outcome, token};
 use crate::unfold;
 
 /// A script that the original can be given, and all that it makes of it.
@@ -82,7 +83,7 @@ impl Whole {
         let (lexing, _) = Lexing::of_reading(script, &lexed);
         let parsing = match lexed.stop {
             Stop::Lexing => None,
-            _ => Some(Parsing::of(script, lexed)),
+            _ => Some(Parsing::of(script, lexed, &lexing.tokens)),
         };
         Whole { lexing, parsing }
     }
@@ -149,7 +150,7 @@ impl Whole {
 }
 
 impl Parsing {
-    fn of(script: &str, lexed: Reading) -> Parsing {
+    fn of(script: &str, lexed: Reading, tokens: &[Token]) -> Parsing {
         let Log {
             events,
             errors,
@@ -157,7 +158,7 @@ impl Parsing {
             stopped,
         } = logged::parse(marks::all(&lexed.tokens));
         let mut all: Vec<Error> = lexed.errors.iter().map(lexing::error).collect();
-        all.extend(errors.iter().map(lexing::error));
+        all.extend(errors.iter().map(|e| placed(e, tokens)));
 
         let mut nodes = Nodes::new(&lexed.tokens);
         let numbers = nodes.top_level(&marked);
@@ -202,11 +203,12 @@ impl Parsing {
             ..
         } = oracle::read(script);
         let errors: Vec<Error> = errors.iter().map(lexing::error).collect();
+        let ours: Vec<Error> = self.errors.iter().map(without_place).collect();
         if self.too_deep() {
-            assert!(errors.starts_with(&self.errors), "errors in {script:?}");
+            assert!(errors.starts_with(&ours), "errors in {script:?}");
             stmts.truncate(self.marked.len());
         } else {
-            assert_eq!(errors, self.errors, "errors in {script:?}");
+            assert_eq!(errors, ours, "errors in {script:?}");
             assert_eq!(stop == Stop::Parsing, self.stopped, "{script:?}");
         }
         assert_eq!(stmts.len(), self.marked.len(), "statements in {script:?}");
@@ -266,4 +268,22 @@ impl Parsing {
             so_far,
         }
     }
+}
+
+/// A logged error of the parser as a record: its place is where the token starts that it is about, and
+/// its line that token's.
+fn placed(error: &InterpreterError, tokens: &[Token]) -> Error {
+    let about = tokens[error.pos];
+    let [number, line, _] = lexing::error(error);
+    assert_eq!(line, about[token::LINE], "the line of {error:?}");
+    [number, line, about[token::START]]
+}
+
+/// The same error as the unchanged original has it, which gives the parser's no place.
+pub fn without_place(error: &Error) -> Error {
+    let mut error = *error;
+    if !message::LEXERS.contains(&error[records::error::MESSAGE]) {
+        error[records::error::POS] = 0;
+    }
+    error
 }

@@ -47,7 +47,7 @@ fn printed(script: Script) -> io::Result<()> {
 fn print(script: &Script) -> io::Result<()> {
     let mut out = io::stdout().lock();
     for error in &script.errors {
-        writeln!(out, "line {}: {}", error.line, error.message)?;
+        writeln!(out, "{error}")?;
     }
     for stmt in &script.stmts {
         writeln!(out, "{stmt:?}")?;

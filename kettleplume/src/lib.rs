@@ -21,7 +21,8 @@
 //! assert!(matches!(script.stmts[0], Stmt::Let(_)));
 //! // Reading goes on behind most errors, as it does in the original.
 //! assert_eq!(script.errors[0].message, "Expected new line");
-//! assert_eq!(script.errors[0].line, 2);
+//! // Each error has its place: the second `print`.
+//! assert_eq!((script.errors[0].line, script.errors[0].column), (2, 13));
 //! assert_eq!(script.stmts.len(), 3);
 //! ```
 //!
@@ -44,8 +45,9 @@
 //! assert_eq!((state.tokens.len(), state.stmts.len()), (5, 1));
 //! ```
 //!
-//! The state holds what the original leaves in it: the same tokens, errors and statements. Where the
-//! original panics, these panic, since someone may catch it: behind an error after which it can't go
+//! The state holds what the original leaves in it: the same tokens, errors and statements; only the
+//! `pos` of the parser's errors, which is always 0 in the original, is here the place in the source
+//! ([`Recorded::pos`] says which). Where the original panics, these panic, since someone may catch it: behind an error after which it can't go
 //! on, and at a number with a point that runs to the last byte. The state then holds what the
 //! original recorded before. They also panic where only this crate gives up: a script over
 //! [`LONGEST`] bytes, more than 128 levels, trees over [`TREE_LIMIT`], and tokens that are not those
@@ -123,6 +125,8 @@ pub mod error;
 pub mod lexer;
 pub mod messages;
 pub mod parser;
+pub mod places;
+mod recorded;
 pub mod records;
 mod script;
 mod stand_in;
@@ -154,6 +158,7 @@ pub mod token {
 pub use discard::discard;
 pub use error::Error;
 pub use messages::{message, MESSAGES};
+pub use recorded::Recorded;
 pub use script::{read, read_with, Parts, Script};
 pub use stand_in::{parse, read_state, scan};
 pub use tables::{Records, Rooms, Tables, LONGEST};

@@ -4,8 +4,8 @@ use std::mem;
 
 use crate::discard::discard;
 use crate::error::Error;
+use crate::recorded::Recorded;
 use crate::records::outcome;
-use crate::state::InterpreterError;
 use crate::stmt::Stmt;
 use crate::tables::{Records, Tables};
 use crate::token::TokenData;
@@ -22,8 +22,8 @@ use crate::{unfold, values, TREE_LIMIT};
 pub struct Script {
     /// All tokens, from the first to EOF.
     pub tokens: Vec<TokenData>,
-    /// What the original records as errors: the lexer's, then the parser's.
-    pub errors: Vec<InterpreterError>,
+    /// What the original records as errors, each with its place: the lexer's, then the parser's.
+    pub errors: Vec<Recorded>,
     /// The top-level statements.
     pub stmts: Vec<Stmt>,
     /// Whether reading came to the end of the script, which it does in spite of most errors.
@@ -70,7 +70,7 @@ pub fn read_with(tables: &mut Tables, source: impl AsRef<[u8]>) -> Script {
         .collect();
     let (stmts, end) = statements(&records, &tokens);
     Script {
-        errors: records.errors.iter().map(values::error).collect(),
+        errors: Recorded::all(source, records.errors),
         tokens,
         stmts,
         end,
@@ -105,7 +105,7 @@ pub(crate) fn ended(outcome: u32) -> Result<(), Error> {
 #[derive(Debug, Clone)]
 pub struct Parts {
     pub tokens: Vec<TokenData>,
-    pub errors: Vec<InterpreterError>,
+    pub errors: Vec<Recorded>,
     pub stmts: Vec<Stmt>,
     pub end: Result<(), Error>,
 }

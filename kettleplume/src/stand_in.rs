@@ -3,7 +3,7 @@
 use crate::error::Error;
 use crate::records::{error, outcome, token};
 use crate::script::{ended, statements};
-use crate::state::InterpreterState;
+use crate::state::{InterpreterError, InterpreterState};
 use crate::tables::Tables;
 use crate::token::{Token, TokenData};
 use crate::values;
@@ -104,7 +104,7 @@ pub fn parse(state: &mut InterpreterState) -> Result<(), Error> {
 /// assert_eq!(kettleplume::read_state(&mut state), Err(kettleplume::Error::Stopped));
 /// assert_eq!(state.stmts.len(), 1);
 /// assert_eq!(state.errors[0].message, "Undefined expression");
-/// assert_eq!(state.errors[0].line, 2);
+/// assert_eq!((state.errors[0].line, state.errors[0].pos), (2, 10));
 /// ```
 pub fn read_state(state: &mut InterpreterState) -> Result<(), Error> {
     // What tokens that are there already do to the reading is for the two to tell.
@@ -114,7 +114,7 @@ pub fn read_state(state: &mut InterpreterState) -> Result<(), Error> {
     }
     let script = crate::read(&state.source).into_parts();
     state.tokens = script.tokens;
-    state.errors.extend(script.errors);
+    state.errors.extend(script.errors.iter().map(InterpreterError::from));
     state.stmts.extend(script.stmts);
     script.end
 }

@@ -49,7 +49,7 @@ fn text(bytes: &[u8]) -> String {
     text.to_string()
 }
 
-/// The error of a record.
+/// The error of a record, as the original's state has it.
 pub fn error(record: &records::Error) -> InterpreterError {
     let &[number, line, pos, ..] = record;
     InterpreterError {

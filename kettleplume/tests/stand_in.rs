@@ -43,14 +43,17 @@ fn fresh(script: &str) -> InterpreterState {
     InterpreterState::new(script.to_string())
 }
 
-/// The state that the original leaves.
+/// The state that the original leaves, but that the parser's errors have places.
 fn left_by_the_original(script: &str, reading: &Reading) -> String {
-    let state = Original {
+    let mut state = Original {
         source: script.to_string(),
         tokens: reading.tokens.clone(),
         errors: reading.errors.clone(),
         stmts: reading.stmts.clone(),
     };
+    for (error, [_, _, pos]) in state.errors.iter_mut().zip(common::errors(script)) {
+        error.pos = pos as usize;
+    }
     format!("{state:?}")
 }
 

@@ -25,12 +25,16 @@ fn compare(script: &str, tables: &mut Tables, ends: &mut Ends) {
     let original: Reading = oracle::read(script);
     let what = format!("of {script:?}");
     same(&ours.tokens, &original.tokens, &what);
+    let errors = ours.errors.iter();
+    let records: Vec<_> = errors
+        .map(|e| [e.number, e.recorded_line as u32, e.pos as u32])
+        .collect();
+    assert_eq!(records, common::errors(script), "{what}");
     // The original goes on where a level too many opens: then only what came before is compared.
-    let (errors, stmts) = match ours.end {
-        Err(Error::TooDeep) => (ours.errors.len(), ours.stmts.len()),
-        _ => (original.errors.len(), original.stmts.len()),
+    let stmts = match ours.end {
+        Err(Error::TooDeep) => ours.stmts.len(),
+        _ => original.stmts.len(),
     };
-    same(&ours.errors, &original.errors[..errors], &what);
     same(&ours.stmts, &original.stmts[..stmts], &what);
     let (count, stop) = match ours.end {
         Err(Error::TooDeep) => return ends.too_deep += 1,

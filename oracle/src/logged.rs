@@ -1,6 +1,7 @@
 //! The original's parser with a log: when each node is finished, each error recorded, each
 //! top-level statement kept, and where a level too many would open. The original keeps no such
-//! order, but outcomes 6 to 8 of document 01 depend on it.
+//! order, but outcomes 6 to 8 of document 01 depend on it. Nor does it tell which token an error is
+//! about, from which the error's place comes.
 //!
 //! `build.rs` makes it from the unchanged `parser.rs` by putting calls in. Whoever uses it compares
 //! its statements and errors with those of the unchanged one.
@@ -30,6 +31,7 @@ pub enum Event {
 #[derive(Debug, Clone)]
 pub struct Log {
     pub events: Vec<Event>,
+    /// The parser's errors. The pos of each is the index of the token whose line it reports.
     pub errors: Vec<InterpreterError>,
     /// The statements that were finished.
     pub stmts: Vec<Stmt>,

@@ -15,7 +15,7 @@ use Rattle.parser.specs.declared.Got.{Got}
 use Rattle.parser.specs.declared.Got.the-variants.{Node, Stop}
 use Rattle.parser.specs.declared.Seen.{Seen}
 use Rattle.parser.specs.declared.Seen.the-variants.{At, Nothing}
-use Rattle.parser.specs.Tokens.{lineAt, matchesAt}
+use Rattle.parser.specs.Tokens.{startAt, lineAt, matchesAt}
 
 -- a reader's answer: the state, what it found or why it stopped, and the tables of errors and nodes then
 pub data Reply : Type 0 where
@@ -49,9 +49,9 @@ withNode p = withNodes p (p .nodes + 1)
 abbrev pub withError : State → State
 withError p = withErrors p (p .errors + 1)
 
--- the error with that message about token i
+-- the error with that message about token i: its line, and its start as the place
 abbrev pub errorAt : List ℕ → ℕ → ℕ → InterpreterError
-errorAt T message i = record { message = message; line = lineAt T i; pos = 0 }
+errorAt T message i = record { message = message; line = lineAt T i; pos = startAt T i }
 
 -- a node, or a token's reference, that is nothing left of `=`
 abbrev pub plain : ℕ → Found

@@ -1,4 +1,4 @@
--- Looking at tokens: kinds, lines, and `check`, which passes newlines. T is the token table.
+-- Looking at tokens: kinds, places, and `check`, which passes newlines. T is the token table.
 use Prim.Native.Nat.{ℕ, zero, suc, _+_, _-_}
 use mathlib.Core.Bool.{Bool, true, false}
 use mathlib.Core.List.{List, [], _∷_}
@@ -16,6 +16,10 @@ count T = room tokenWidth T
 -- the kind of token i; past the end it is EOF's
 unfoldable pub kindAt : List ℕ → ℕ → ℕ
 kindAt T i = field tokenWidth 0 T i
+
+-- where token i starts in the source
+unfoldable pub startAt : List ℕ → ℕ → ℕ
+startAt T i = field tokenWidth 1 T i
 
 -- the line of token i
 unfoldable pub lineAt : List ℕ → ℕ → ℕ

@@ -5,7 +5,7 @@ ghost use mathlib.Core.Bool.{not};
 ghost use Prim.Native.Nat.{ℕ, _-_};
 ghost use lib.Dec.{eqb};
 ghost use Rattle.token.specs.Kind.{EOF};
-ghost use Rattle.parser.specs.Tokens.{kindAt, lineAt, after, skipLines, peekAt, checkAt, matchesAt};
+ghost use Rattle.parser.specs.Tokens.{kindAt, startAt, lineAt, after, skipLines, peekAt, checkAt, matchesAt};
 ghost use Rattle.parser.specs.Tables.{Reply, reply, moved, looped, withNodes, withErrors, freshState, errorAt, pushNode, pushError, plain, consumeAt, requireAt};
 ghost use Rattle.parser.specs.Programs.{raised};
 ghost use Rattle.parser.specs.Grammar.{firstOf};
@@ -66,6 +66,12 @@ pub fn kind_at(tokens: &[u32], i: u32) -> u32
     ensures { λ r. ⌜ r ≡ kindAt (now (tokens .entry)) i ⌝ }
 {
     records::token_kind(tokens, i)
+}
+
+pub fn start_at(tokens: &[u32], i: u32) -> u32
+    ensures { λ r. ⌜ r ≡ startAt (now (tokens .entry)) i ⌝ }
+{
+    records::token_start(tokens, i)
 }
 
 pub fn line_at(tokens: &[u32], i: u32) -> u32
@@ -286,19 +292,16 @@ pub fn make(nodes: &mut [u32], p: State, d: Node) -> Out
     stopped(p, 7)
 }
 
-// The error with that message about a token.
+// The error with that message about a token: it carries the token's line, and where the token starts.
 pub fn error_at(tokens: &[u32], message: u32, token: u32) -> InterpreterError
     ensures { λ r. ⌜ r ≡ errorAt (now (tokens .entry)) message token ⌝ }
 {
     let line = line_at(tokens, token);
-    InterpreterError {
-        message,
-        line,
-        pos: 0,
-    }
+    let pos = start_at(tokens, token);
+    InterpreterError { message, line, pos }
 }
 
-// The one function that records a parser error: message, and the token whose line it reports; 6 where it finds no room.
+// The one function that records a parser error: message, and the token whose line and start it reports; 6 where it finds no room.
 pub fn set_error(tokens: &[u32], errors: &mut [u32], p: State, message: u32, token: u32) -> Out
     ensures { λ r. ⌜ ((N : List ℕ) → reply (r .p) (r .got) (now (errors .exit)) N ≡ pushError (now (tokens .entry)) message token p (now (errors .entry)) N) ⌝ }
 {

@@ -28,6 +28,7 @@ use Rattle.parser.specs.Grammar.{firstOf, property, when, assigned, Level, leve
 use Rattle.parser.specs.Whole.{Parsed, topLevel, orEnds, ifEnd, statements, parsed}
 use Rattle.parser.proofs.Push.{push-nodes, push-errors}
 use Rattle.parsing.specs.Ahead.{Agree, isOutcome}
+use Rattle.parsing.specs.Places.{isParsers}
 use Rattle.parsing.proofs.Same.{body-same}
 use Rattle.progress.proofs.Fuel.{parsed-never-spent}
 
@@ -35,7 +36,7 @@ use Rattle.progress.proofs.Fuel.{parsed-never-spent}
 abbrev pub Stops : ℕ → Type 0
 Stops o = dec.T (isOutcome o || eqb o 99)
 
--- ---- the tokens that a program names are at or before token e, and what it stops with is one of those stops
+-- ---- the tokens that a program names are at or before token e, its messages are the parser's, and what it stops with is one of those stops
 abbrev pub Kept : ℕ → Prog → Type 0
 Kept e (give f) = Unit {0}
 Kept e (stop o) = Stops o
@@ -47,10 +48,10 @@ Kept e (atEnd found missing) = Kept e found × Kept e missing
 Kept e previous = Unit {0}
 Kept e (node d) = Unit {0}
 Kept e (link prev next) = Unit {0}
-Kept e (fail message) = Unit {0}
-Kept e (failAt message token) = token ≤ e
-Kept e (consume kind message) = Unit {0}
-Kept e (require kind message) = Unit {0}
+Kept e (fail message) = dec.T (isParsers message)
+Kept e (failAt message token) = dec.T (isParsers message) × (token ≤ e)
+Kept e (consume kind message) = dec.T (isParsers message)
+Kept e (require kind message) = dec.T (isParsers message)
 Kept e enterLoop = Unit {0}
 Kept e leaveLoop = Unit {0}
 Kept e (insideLoop found missing) = Kept e found × Kept e missing
@@ -64,8 +65,8 @@ when-kept false e P Q g h = h
 assigned-kept : (f : Form) (a v t e : ℕ) → t ≤ e → Kept e (assigned f a v t)
 assigned-kept (Name n) a v t e h = tt
 assigned-kept (Property n o) a v t e h = tt
-assigned-kept Other a v t e h = (h, tt)
-assigned-kept Empty a v t e h = (h, tt)
+assigned-kept Other a v t e h = ((tt, h), tt)
+assigned-kept Empty a v t e h = ((tt, h), tt)
 
 module _ (T : List ℕ) (e : ℕ) where
   block-from-kept : (f first last : ℕ) → Kept e (blockFrom T f first last)
@@ -81,14 +82,14 @@ module _ (T : List ℕ) (e : ℕ) where
   unfolding expressionStmt
   expression-stmt-kept = (tt, λ x. (tt, λ t. tt))
 
-  parameters-from-kept : (message f n first last : ℕ) → Kept e (parametersFrom T message f n first last)
+  parameters-from-kept : (message : ℕ) → dec.T (isParsers message) → (f n first last : ℕ) → Kept e (parametersFrom T message f n first last)
   unfolding parametersFrom
-  parameters-from-kept message zero n first last = tt
-  parameters-from-kept message (suc f) n first last = when-kept (ltb 255 n) e _ _ (tt, tt) (tt, λ i. (tt, λ d. (tt, (λ c h. parameters-from-kept message f (n + 1) (firstOf first (d .node)) (d .node), tt))))
+  parameters-from-kept message g zero n first last = tt
+  parameters-from-kept message g (suc f) n first last = when-kept (ltb 255 n) e _ _ (tt, tt) (g, λ i. (tt, λ d. (tt, (λ c h. parameters-from-kept message g f (n + 1) (firstOf first (d .node)) (d .node), tt))))
 
-  parameters-kept : (message : ℕ) → Kept e (parameters T message)
+  parameters-kept : (message : ℕ) → dec.T (isParsers message) → Kept e (parameters T message)
   unfolding parameters
-  parameters-kept message = (tt, parameters-from-kept message (fuel T) 0 0 0)
+  parameters-kept message g = (tt, parameters-from-kept message g (fuel T) 0 0 0)
 
   function-body-kept : Kept e (functionBody T)
   unfolding functionBody
@@ -96,11 +97,11 @@ module _ (T : List ℕ) (e : ℕ) where
 
   fn-stmt-kept : Kept e (fnStmt T)
   unfolding fnStmt
-  fn-stmt-kept = (tt, λ name. (tt, (parameters-kept 11, λ params. (tt, (function-body-kept, λ stmts. tt)))))
+  fn-stmt-kept = (tt, λ name. (tt, (parameters-kept 11 tt, λ params. (tt, (function-body-kept, λ stmts. tt)))))
 
   fn-expr-kept : Kept e (fnExpr T)
   unfolding fnExpr
-  fn-expr-kept = (tt, (parameters-kept 14, λ params. (tt, (function-body-kept, λ stmts. tt))))
+  fn-expr-kept = (tt, (parameters-kept 14 tt, λ params. (tt, (function-body-kept, λ stmts. tt))))
 
   methods-from-kept : (f : ℕ) (k : ℕ → ℕ → Prog) (m n s t : ℕ) → ((x y : ℕ) → Kept e (k x y)) → Kept e (methodsFrom T f k m n s t)
   unfolding methodsFrom
@@ -156,11 +157,11 @@ module _ (T : List ℕ) (e : ℕ) where
 
   brk-kept : (keyword : ℕ) → keyword ≤ e → Kept e (brk T keyword)
   unfolding brk
-  brk-kept keyword h = ((tt, h), tt)
+  brk-kept keyword h = ((tt, (tt, h)), tt)
 
   cont-kept : (keyword : ℕ) → keyword ≤ e → Kept e (cont T keyword)
   unfolding cont
-  cont-kept keyword h = ((tt, h), tt)
+  cont-kept keyword h = ((tt, (tt, h)), tt)
 
   while-kept : (keyword : ℕ) → Kept e (whileStmt T keyword)
   unfolding whileStmt
@@ -253,7 +254,7 @@ module _ (T : List ℕ) (e : ℕ) where
   unfolding assignment
   assignment-kept = (binary-kept levels, λ left. (λ i h. (tt, λ v. assigned-kept (left .form) (left .access) (v .node) i e h), tt))
 
-  body-kept : (w : Which) → Kept e (body T w)
+  pub body-kept : (w : Which) → Kept e (body T w)
   unfolding body
   body-kept Declaration = declaration-kept
   body-kept Assignment = assignment-kept
@@ -310,7 +311,7 @@ module _ (T T′ : List ℕ) (e : ℕ) (a : Agree e T T′) where
   seen-ahead true i h = spot i h
   seen-ahead false i h = none
 
-  check-ahead : (i kind : ℕ) → i ≤ e → Spotted e (checkAt T i kind) (checkAt T′ i kind)
+  pub check-ahead : (i kind : ℕ) → i ≤ e → Spotted e (checkAt T i kind) (checkAt T′ i kind)
   unfolding checkAt
   check-ahead i kind h = go (eqb kind 1)
     where
@@ -321,7 +322,7 @@ module _ (T T′ : List ℕ) (e : ℕ) (a : Agree e T T′) where
           let s = skip-ahead i h in
           rw (← s .1, ← a .kinds (skipLines T i) (s .0)) (seen-ahead (eqb (kindAt T (skipLines T i)) kind) (skipLines T i) (s .0))
 
-  matches-ahead : (i kind : ℕ) → i ≤ e → Spotted e (matchesAt T i kind) (matchesAt T′ i kind)
+  pub matches-ahead : (i kind : ℕ) → i ≤ e → Spotted e (matchesAt T i kind) (matchesAt T′ i kind)
   unfolding matchesAt
   matches-ahead i kind h = go (check-ahead i kind h)
     where
@@ -360,7 +361,7 @@ ahead-push e d p E N l = push-nodes (Ahead e) d d p p E N E N refl refl (λ _. a
 
 module _ (T T′ : List ℕ) (e : ℕ) (a : Agree e T T′) where
   ahead-error : (m i : ℕ) (p : State) (E N : List ℕ) → i ≤ e → p .current ≤ e → Ahead e (pushError T m i p E N) (pushError T′ m i p E N)
-  ahead-error m i p E N h l = push-errors (Ahead e) T T′ m i p p E N E N refl refl (λ _. rw (a .lines i h) (ahead _ _ _ _ l tt)) (ahead _ _ _ _ l tt)
+  ahead-error m i p E N h l = push-errors (Ahead e) T T′ m i p p E N E N refl refl (λ _. rw (a .lines i h, a .starts i h) (ahead _ _ _ _ l tt)) (ahead _ _ _ _ l tt)
 
   ahead-consume : (kind m : ℕ) (p : State) (E N : List ℕ) → p .current ≤ e → Ahead e (consumeAt T kind m p E N) (consumeAt T′ kind m p E N)
   unfolding consumeAt
@@ -387,7 +388,7 @@ module _ (T T′ : List ℕ) (e : ℕ) (a : Agree e T T′) where
     run-ahead (node d) k p E N l = ahead-push e d p E N l
     run-ahead (link prev next) k p E N l = ahead p _ E _ l tt
     run-ahead (fail message) k p E N l = ahead-error message (p .current) p E N l l
-    run-ahead (failAt message token) k p E N l = ahead-error message (token - 1) p E N (omega arith) l
+    run-ahead (failAt message token) k p E N l = let b = k .1 in ahead-error message (token - 1) p E N (omega arith) l
     run-ahead (consume kind message) k p E N l = ahead-consume kind message p E N l
     run-ahead (require kind message) k p E N l = ahead-require kind message p E N l
     run-ahead enterLoop k p E N l = ahead _ _ E N l tt
@@ -439,7 +440,7 @@ module _ (T : List ℕ) where
   -- past the end every token is an EOF
   agree-self : Agree (count T) T T
   unfolding kindAt
-  agree-self = record { counts = refl; end = field-none tokenWidth 0 T (count T) (omega arith); kinds = λ i h. refl; lines = λ i h. refl }
+  agree-self = record { counts = refl; end = field-none tokenWidth 0 T (count T) (omega arith); kinds = λ i h. refl; starts = λ i h. refl; lines = λ i h. refl }
 
   stops-or : (e first kept : ℕ) {r r′ : Reply} (k : ℕ → State → List ℕ → List ℕ → Parsed) → Ahead e r r′ → ((n : ℕ) (q : State) (E N : List ℕ) → q .current ≤ e → Stops (k n q E N .outcome)) → Stops (orEnds first kept r k .outcome)
   stops-or e first kept k (ahead q (Node f) E N l x) h = h (f .node) q E N l

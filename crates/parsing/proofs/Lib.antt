@@ -2,5 +2,6 @@ pub mod Frame
 pub mod Sizes
 pub mod Same
 pub mod Ahead
+pub mod Places
 pub mod Calls
 pub mod One

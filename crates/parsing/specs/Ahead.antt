@@ -6,13 +6,14 @@ use mathlib.Core.List.{List}
 use lib.Dec.{eqb}
 use Rattle.token.specs.Kind.{EOF}
 use Rattle.records.specs.Outcomes.{ended, fatalStop, noErrorRoom, noNodeRoom, tooDeep}
-use Rattle.parser.specs.Tokens.{count, kindAt, lineAt}
+use Rattle.parser.specs.Tokens.{count, kindAt, startAt, lineAt}
 
--- token e is an EOF, and up to it the two tables, with as many tokens at the most, have the same kinds and lines
+-- token e is an EOF, and up to it the two tables, with as many tokens at the most, have the same kinds, starts and lines
 pub record Agree (e : ℕ) (T T′ : List ℕ) : Type 0 where
   pub counts : count T ≡ count T′
   pub end : kindAt T e ≡ EOF
   pub kinds : (i : ℕ) → i ≤ e → kindAt T i ≡ kindAt T′ i
+  pub starts : (i : ℕ) → i ≤ e → startAt T i ≡ startAt T′ i
   pub lines : (i : ℕ) → i ≤ e → lineAt T i ≡ lineAt T′ i
 
 -- the outcomes of a parsing: EOF is reached, a fatal stop, an error or a node finds no room, a level over 128 would open

@@ -1,2 +1,3 @@
 pub mod Ahead
+pub mod Places
 pub mod Calls

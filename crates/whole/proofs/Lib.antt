@@ -1,4 +1,5 @@
 pub mod Sizes
 pub mod Rooms
 pub mod Outcome
+pub mod Places
 pub mod One

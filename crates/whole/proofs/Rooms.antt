@@ -20,7 +20,7 @@ use Rattle.whole.specs.Sizes.{Within}
 use Rattle.whole.proofs.Sizes.{over-keeps, after-long}
 
 -- of a lexing
-lexed-rooms : (s : List ℕ) (a b : ℕ) → (lexedOf s a b .tokenCount ≤ a) × (lexedOf s a b .errorCount ≤ b)
+pub lexed-rooms : (s : List ℕ) (a b : ℕ) → (lexedOf s a b .tokenCount ≤ a) × (lexedOf s a b .errorCount ≤ b)
 unfolding lexedOf
 lexed-rooms s a b = at (ltb 65535 (length s)) (isText s)
   where

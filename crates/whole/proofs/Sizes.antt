@@ -23,7 +23,7 @@ use Rattle.lexer.specs.Lex.{State, Result, Onward, go, stop, pickOnward, kept, 
 use Rattle.lexing.specs.Kept.{Good, Placed, Ending, whole, short}
 use Rattle.lexing.proofs.Kept.{lexed-keeps}
 use Rattle.lexing.proofs.Answer.{tokens-within, errors-within}
-use Rattle.parser.specs.Tokens.{kindAt, lineAt}
+use Rattle.parser.specs.Tokens.{kindAt, startAt, lineAt}
 use Rattle.parser.specs.Whole.{Parsed, parsed}
 use Rattle.parsing.specs.Ahead.{Agree, isOutcome}
 use Rattle.parsing.proofs.Sizes.{SameParsed, parsed-sizes}
@@ -69,11 +69,11 @@ module _ (a b : ℕ) where
 
 -- ---- what is lexed
 -- whole records; where the end is reached the last token is EOF; and after 3 and 4 none
-record Well (r : Result) : Type 0 where
-  tokens-long : length (r .tokens) ≡ tokenWidth * r .tokenCount
-  errors-long : length (r .errors) ≡ errorWidth * r .errorCount
-  eof : r .outcome ≡ 0 → (m : ℕ) × (r .tokenCount ≡ m + 1) × (getD (r .tokens) (tokenWidth * m + 0) 0 ≡ 0)
-  nothing : unread (r .outcome) ≡ true → (r .tokens ≡ []) × (r .errors ≡ [])
+pub record Well (r : Result) : Type 0 where
+  pub tokens-long : length (r .tokens) ≡ tokenWidth * r .tokenCount
+  pub errors-long : length (r .errors) ≡ errorWidth * r .errorCount
+  pub eof : r .outcome ≡ 0 → (m : ℕ) × (r .tokenCount ≡ m + 1) × (getD (r .tokens) (tokenWidth * m + 0) 0 ≡ 0)
+  pub nothing : unread (r .outcome) ≡ true → (r .tokens ≡ []) × (r .errors ≡ [])
 
 well-lexed : (n : ℕ) (r : Result) → unread (r .outcome) ≡ false → length (r .errors) ≡ errorWidth * r .errorCount → Ending n r → Well r
 well-lexed n r u e (whole ws m d o rows le eof is count) =
@@ -95,7 +95,7 @@ well-lexed n r u e (short ne rows le) =
 well-refusal : (o : ℕ) → (o ≡ 0 → ⊥) → Well (refusal o)
 well-refusal o h = record { tokens-long = refl; errors-long = refl; eof = λ z. absurd (h z); nothing = λ z. (refl, refl) }
 
-well : (s : List ℕ) (a b : ℕ) → Well (lexedOf s a b)
+pub well : (s : List ℕ) (a b : ℕ) → Well (lexedOf s a b)
 unfolding lexedOf lexed
 well s a b = at (ltb 65535 (length s)) (isText s)
   where
@@ -130,13 +130,14 @@ over-field k ws t t′ n i l e h b =
     (List·getD-append ws (drop (length ws) t) 0 (tokenWidth * i + k) (omega arith) ∙ sym (List·getD-append ws (drop (length ws) t′) 0 (tokenWidth * i + k) (omega arith)))
 
 -- the words of the token tables behind EOF don't count
-over-agree : (ws t t′ : List ℕ) (m : ℕ) → length t ≡ length t′ → length ws ≡ tokenWidth * (m + 1) → getD ws (tokenWidth * m + 0) 0 ≡ 0 → Agree m (over ws t) (over ws t′)
-unfolding kindAt lineAt
+pub over-agree : (ws t t′ : List ℕ) (m : ℕ) → length t ≡ length t′ → length ws ≡ tokenWidth * (m + 1) → getD ws (tokenWidth * m + 0) 0 ≡ 0 → Agree m (over ws t) (over ws t′)
+unfolding kindAt startAt lineAt
 over-agree ws t t′ m l e z =
     record {
       counts = room-length tokenWidth (over ws t) (over ws t′) (over-long ws t t′ l);
       end = ⊎-elim (λ h. field-room tokenWidth 0 (over ws t) m h ∙ List·getD-append ws (drop (length ws) t) 0 (tokenWidth * m + 0) (omega arith) ∙ z) (λ h. field-none tokenWidth 0 (over ws t) m h) (lt-or-le m (room tokenWidth (over ws t)));
       kinds = λ i h. over-field 0 ws t t′ (m + 1) i l e (omega arith) (omega arith);
+      starts = λ i h. over-field 1 ws t t′ (m + 1) i l e (omega arith) (omega arith);
       lines = λ i h. over-field 3 ws t t′ (m + 1) i l e (omega arith) (omega arith);
     }
 

@@ -18,10 +18,11 @@ usage: kettleplume read [--outline] FILE...
 
 For each script its recorded errors are printed, in the order in which they were
 found, and then a line that says what came of the reading. An error has its file,
-line and column, the message, the line of the script, and a mark under the place.
-Columns count characters. Of an error that the parser finds only a line is known:
-it has no column and no mark. Where the mistake may as well stand at the end of the
-line before, that line is shown too.
+line and column, the message, the line of the script, and a mark under the place. An
+error that the parser finds has the place of the word or mark at which it was found:
+where something is missing, of what stands there instead. That may be the end of a
+line or of the script; the mark then stands behind the last character. Columns count
+characters. Lines are the file's own; a remark tells where another one is recorded.
 
 A line of more than 100 characters is cut around the place, with ... where something
 is left out. Characters that a terminal shouldn't be given are shown by others.

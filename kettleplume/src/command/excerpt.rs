@@ -1,22 +1,21 @@
-//! Lines of a script as they are shown below an error.
+//! The line of a script as it is shown below an error, and what is said of it.
 
 use std::fmt::Write as _;
-use std::ops::RangeInclusive;
+
+use kettleplume::places::Places;
 
 use super::letters::{self, Letter};
-use super::script::Script;
 
 /// The most letters of a line that are shown.
 const MOST_LETTERS: usize = 100;
 /// How many of them stand from the place on, in a line that is cut on both sides.
 const FROM_PLACE: usize = 40;
-/// More lines than these are shown by the first and the last.
-const MOST_LINES: usize = 4;
 /// Stands for what is left out.
 const CUT: &str = "...";
 
-/// The line of a place and, below, a mark under it.
-pub fn marked(script: &Script, at: usize) -> String {
+/// The line of a place and, below, a mark under it: behind the last letter, where the place is the end
+/// of the line or of the script.
+pub fn marked(script: &Places, at: usize) -> String {
     let line = script.line(at);
     let place = at - script.start(line);
     let text = script.text(line);
@@ -24,24 +23,7 @@ pub fn marked(script: &Script, at: usize) -> String {
     numbered(line, &shown.text) + &beside('|', &format!("{}^", shown.before))
 }
 
-/// Whole lines, without a mark.
-pub fn lines(script: &Script, lines: RangeInclusive<usize>) -> String {
-    let (first, last) = (*lines.start(), *lines.end());
-    if last - first < MOST_LINES {
-        return lines.map(|line| whole(script, line)).collect();
-    }
-    whole(script, first) + &beside('|', CUT) + &whole(script, last)
-}
-
-fn whole(script: &Script, line: usize) -> String {
-    match script.is_end(line) {
-        // An empty line would show nothing.
-        true => note(&format!("the script ends at line {line}")),
-        false => numbered(line, &Part::around(script.text(line), 0).text),
-    }
-}
-
-/// A remark below the lines.
+/// A remark below the line.
 pub fn note(text: &str) -> String {
     beside('=', text)
 }
@@ -85,8 +67,10 @@ impl Part {
             part.text.push_str(CUT);
         }
         // The mark of what is drawn over a letter goes under that letter.
-        if after.first().is_some_and(|letter| letter.width == 0) {
-            part.before.pop();
+        if after.first().is_some_and(|letter| letter.cells == 0) {
+            let under = before.iter().rev().find(|letter| letter.cells > 0);
+            let cells = under.map_or(0, |letter| letter.cells);
+            part.before.truncate(part.before.len().saturating_sub(cells));
         }
         part
     }
@@ -96,7 +80,7 @@ impl Part {
         self.text.push(letter.shown);
         let blank = if letter.shown == '\t' { "\t" } else { " " };
         // Writing to a string doesn't fail.
-        let _ = write!(self.before, "{}", blank.repeat(letter.width));
+        let _ = write!(self.before, "{}", blank.repeat(letter.cells));
     }
 }
 

@@ -4,6 +4,10 @@
 
 use std::char::REPLACEMENT_CHARACTER;
 
+use kettleplume::places::{continues, first_char, is_drawn_over};
+
+use super::wide::is_wide;
+
 /// A letter at the beginning of some bytes.
 #[derive(Debug, Clone, Copy, PartialEq, Eq)]
 pub struct Letter {
@@ -13,33 +17,28 @@ pub struct Letter {
     pub char: char,
     /// What is shown for it: one character. A tab stays a tab.
     pub shown: char,
-    /// How many columns it takes: none, if it is drawn over the letter before it, else one.
-    pub width: usize,
+    /// How many cells of a terminal it takes: none, if it is drawn over the letter before it, two, if it
+    /// is a wide one, else one.
+    pub cells: usize,
 }
 
 /// The letter at the beginning, unless there are no bytes.
 pub fn first(bytes: &[u8]) -> Option<Letter> {
-    match bytes {
-        [] => None,
-        // Most are such, and a report may look at millions.
-        [byte @ b' '..=b'~', ..] => Some(Letter::of(1, char::from(*byte))),
-        [_, rest @ ..] => {
-            let length = 1 + rest.iter().take_while(|byte| continues(**byte)).count();
-            let text = std::str::from_utf8(&bytes[..length]).ok();
-            let char = text.and_then(|text| text.chars().next());
-            Some(Letter::of(length, char.unwrap_or(REPLACEMENT_CHARACTER)))
-        }
-    }
+    let (char, length) = first_char(bytes)?;
+    Some(Letter::of(length, char))
 }
 
 impl Letter {
     fn of(length: usize, char: char) -> Letter {
-        let over = is_drawn_over(char);
+        let (shown, cells) = match is_drawn_over(char) {
+            true => (char, 0),
+            false => (visible(char), 1 + usize::from(is_wide(visible(char)))),
+        };
         Letter {
             length,
             char,
-            shown: if over { char } else { visible(char) },
-            width: usize::from(!over),
+            shown,
+            cells,
         }
     }
 }
@@ -65,11 +64,6 @@ pub fn escaped(text: &str) -> String {
     out
 }
 
-/// Whether a byte belongs to the letter of the byte before it.
-fn continues(byte: u8) -> bool {
-    byte & 0xc0 == 0x80
-}
-
 fn visible(c: char) -> char {
     match c {
         '\t' | ' '..='~' => c,
@@ -80,12 +74,6 @@ fn visible(c: char) -> char {
         _ if c.escape_debug().count() == 1 => c,
         _ => REPLACEMENT_CHARACTER,
     }
-}
-
-/// Whether a character is drawn over the one before it, as an accent that is a character of its own. The
-/// standard library tells: it escapes such a character alone, but not behind another.
-fn is_drawn_over(c: char) -> bool {
-    !c.is_ascii() && c.escape_debug().count() > 1 && format!("a{c}").escape_debug().eq(['a', c])
 }
 
 #[cfg(test)]
@@ -125,15 +113,15 @@ mod tests {
             let letter = first(bytes).expect("there are bytes");
             assert_eq!(letter.length, bytes.len());
             assert_eq!((letter.char, letter.shown), ('\u{fffd}', '\u{fffd}'));
-            assert_eq!(letter.width, 1);
+            assert_eq!(letter.cells, 1);
         }
     }
 
     #[test]
-    fn an_accent_of_its_own_takes_no_column() {
-        let width = |c: char| first(c.to_string().as_bytes()).map(|letter| letter.width);
-        let widths = ['u', '\u{302}', 'û', '\t', '\u{a0}'].map(width);
-        assert_eq!(widths, [1, 0, 1, 1, 1].map(Some));
+    fn cells_of_a_terminal() {
+        let cells = |c: char| first(c.to_string().as_bytes()).map(|letter| letter.cells);
+        let counts = ['u', '\u{302}', 'û', '\t', '\u{a0}', '水', '\u{1f3b9}'].map(cells);
+        assert_eq!(counts, [1, 0, 1, 1, 1, 2, 2].map(Some));
     }
 
     #[test]

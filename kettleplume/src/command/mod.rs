@@ -1,18 +1,19 @@
 //! The command, from its words to its exit status.
 //!
 //! `arguments` says what is asked for, `input` fetches a script. `report` puts a reading into words for
-//! people, with `script` for where a place stands, `excerpt` for the lines shown and `letters` for what
-//! a terminal may be given; `outline` prints it in document 01's form. `console` is the only part that
-//! prints.
+//! people, with `excerpt` for the line shown and its mark, `letters` and `wide` for what a terminal may
+//! be given and the room that it takes there, and `counted` for the line in a record; `outline` prints
+//! it in document 01's form. `console` is the only part that prints.
 
 mod arguments;
 mod console;
+mod counted;
 mod excerpt;
 mod input;
 mod letters;
 mod outline;
 mod report;
-mod script;
+mod wide;
 
 use std::ffi::OsString;
 use std::io;

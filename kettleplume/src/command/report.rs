@@ -1,104 +1,71 @@
 //! What came of a reading, for people: each recorded error at its place, then the outcome.
 
 use std::fmt::Write as _;
-use std::ops::RangeInclusive;
 
+use kettleplume::places::Places;
 use kettleplume::records::{self, message};
 use kettleplume::{Error, Records};
 
+use super::counted::{broken_escape, miscount};
 use super::excerpt;
 use super::letters;
-use super::script::{broken_escape, Script};
 
 /// The report of one script, under the name of its file.
 pub fn report(name: &str, source: &[u8], records: &Records) -> String {
-    let script = Script::new(source, records.errors);
+    let script = Places::new(source);
     let mut out = String::new();
     for error in records.errors {
-        out += &recorded(name, &script, *error);
+        out += &recorded(name, &script, records.tokens, *error);
     }
     // Writing to a string doesn't fail.
     let _ = writeln!(out, "{name}: {}", outcome(source, records));
     out
 }
 
-/// What a record tells of an error's place.
-enum Place {
-    At(usize),
-    /// Only the line, as the reader counts.
-    InLine(u32),
-}
-
-/// The lexer's errors have their place. The parser's have pos 0 and the line of a token.
-fn place([number, line, pos]: records::Error) -> Place {
-    match message::LEXERS.contains(&number) {
-        true => Place::At(pos as usize),
-        false => Place::InLine(line),
-    }
-}
-
-fn recorded(name: &str, script: &Script, error: records::Error) -> String {
-    let number = error[records::error::MESSAGE];
+/// An error has one place, and the line and the column are those of that place.
+fn recorded(
+    name: &str,
+    script: &Places,
+    tokens: &[records::Token],
+    error: records::Error,
+) -> String {
+    let [number, _, pos] = error;
     let text = kettleplume::message(number).unwrap_or("a message without a text");
-    match place(error) {
-        Place::At(at) => {
-            let (line, column) = (script.line(at), script.column(at));
-            let head = format!("{name}:{line}:{column}: {text}\n");
-            head + &excerpt::marked(script, at) + &remarks(script, error)
-        }
-        Place::InLine(counted) => {
-            let lines = script.counted_as(counted);
-            let head = format!("{name}:{}: {text}\n", lines.start());
-            let before = usize::from(may_stand_before(number)).min(lines.start() - 1);
-            let shown = lines.start() - before..=*lines.end();
-            head + &excerpt::lines(script, shown) + &miscount(lines, counted)
-        }
-    }
-}
-
-/// Whether the token whose line was recorded may be a new line, which carries the number of the line
-/// behind it. It isn't one where a new line was missed, at break and continue and at `=`.
-fn may_stand_before(number: u32) -> bool {
-    !matches!(
-        number,
-        message::NEW_LINE | message::OUTSIDE_LOOP | message::ASSIGNED
-    )
+    let at = pos as usize;
+    let (line, column) = (script.line(at), script.column(at));
+    let head = format!("{name}:{line}:{column}: {text}\n");
+    head + &excerpt::marked(script, at) + &remarks(script, tokens, error)
 }
 
 /// What the line and the mark don't tell.
-fn remarks(script: &Script, [number, counted, pos]: records::Error) -> String {
+fn remarks(script: &Places, tokens: &[records::Token], error: records::Error) -> String {
+    let [number, line, pos] = error;
     let at = pos as usize;
-    let line = script.line(at);
+    let mut notes = vec![];
     match number {
-        message::UNCLOSED => excerpt::note(&unclosed(script, counted, at)),
-        message::ILLEGAL => character(script.source(), at) + &miscount(line..=line, counted),
-        _ => miscount(line..=line, counted),
+        message::UNCLOSED => notes.push(unclosed(script, line, at)),
+        message::ILLEGAL => notes.extend(character(script.source(), at)),
+        _ => (),
     }
-}
-
-/// Says which line is recorded, if it isn't the line in the file.
-fn miscount(lines: RangeInclusive<usize>, counted: u32) -> String {
-    let counted = counted as usize;
-    if lines == (counted..=counted) {
-        return String::new();
+    if at == script.source().len() {
+        notes.push("the script ends here".to_string());
     }
-    excerpt::note(&format!(
-        "recorded with line {counted}: a new line behind a backslash isn't counted"
-    ))
+    if number != message::UNCLOSED {
+        notes.extend(miscount(script, tokens, error));
+    }
+    notes.iter().map(|text| excerpt::note(text)).collect()
 }
 
 /// A character by its number, unless it is plain to see, and which byte of it is meant: each has an
 /// error of its own.
-fn character(source: &[u8], pos: usize) -> String {
+fn character(source: &[u8], pos: usize) -> Option<String> {
     let start = letters::start(source, pos);
-    let Some(letter) = letters::first(&source[start..]) else {
-        return String::new();
-    };
+    let letter = letters::first(&source[start..])?;
     let what = match letter.char {
-        ' '..='~' => return String::new(),
+        ' '..='~' => return None,
         c => format!("U+{:04X}", c as u32),
     };
-    excerpt::note(&match letter.length {
+    Some(match letter.length {
         1 => what,
         length => format!("{what}, byte {} of {length}", pos - start + 1),
     })
@@ -106,7 +73,7 @@ fn character(source: &[u8], pos: usize) -> String {
 
 /// Where a string that isn't closed properly was given up. The line recorded is the one there, while
 /// the place is the quote's.
-fn unclosed(script: &Script, counted: u32, quote: usize) -> String {
+fn unclosed(script: &Places, counted: u32, quote: usize) -> String {
     let why = match broken_escape(script.source(), quote) {
         None => "is not closed up to the end of the script".to_string(),
         Some(backslash) => format!(
@@ -178,7 +145,7 @@ mod tests {
 
     /// Scripts of parts that are hard to show, each other than the last.
     fn hard_scripts() -> impl Iterator<Item = Vec<u8>> {
-        const PARTS: [&[u8]; 20] = [
+        const PARTS: [&[u8]; 22] = [
             b"\n",
             b"\r\n",
             b"\t",
@@ -193,6 +160,8 @@ mod tests {
             b"#",
             b"(",
             b"{",
+            b"let",
+            b"\xe6\xb0\xb4",
             b"\xc3\xbb",
             b"u\xcc\x82",
             b"\xed\x9f\xbf",
@@ -224,26 +193,43 @@ mod tests {
         }
     }
 
-    /// What stands over a mark is what stands at the place.
+    /// What stands over a mark is what stands at the place; nothing does at an end.
     #[test]
     fn marks_are_under_their_letters() {
-        let (mut tables, mut marks) = (Tables::new(), 0);
-        let lexers = |error: &&records::Error| matches!(place(**error), Place::At(_));
+        let (mut tables, mut marks) = (Tables::new(), [0, 0, 0]);
         for source in hard_scripts() {
-            let records = tables.read(&source);
-            let script = Script::new(&source, records.errors);
-            for error in records.errors.iter().filter(lexers) {
-                let at = letters::start(&source, error[records::error::POS] as usize);
-                let letter = letters::first(&source[at..]).expect("a letter");
+            let script = Places::new(&source);
+            for [number, _, pos] in tables.read(&source).errors {
+                let at = letters::start(&source, *pos as usize);
                 let excerpt = excerpt::marked(&script, at);
                 let (line, mark) = excerpt.split_once('\n').expect("two lines");
-                // Accents take no column; one that has a mark is found by its letter.
-                let columns: Vec<char> = line.chars().filter(|c| *c != '\u{302}').collect();
-                let under = columns[mark.trim_end().chars().count() - 1];
-                assert!(under == letter.shown || letter.width == 0, "{excerpt}");
-                marks += 1;
+                let under = under(line, mark);
+                // Accents take no cell; one that has a mark is found by its letter.
+                let right = match letters::first(&source[at..]) {
+                    None => under.is_none(),
+                    Some(letter) if "\r\n".contains(letter.char) => {
+                        under.is_none() || under == Some(letter.shown)
+                    }
+                    Some(letter) => under == Some(letter.shown) || letter.cells == 0,
+                };
+                assert!(right, "{excerpt}");
+                let lexers = message::LEXERS.contains(number);
+                marks[if lexers { 0 } else { 1 + usize::from(under.is_none()) }] += 1;
             }
         }
-        assert!(marks > 5_000, "{marks}");
+        assert!(marks[0] > 5_000 && marks[1] > 200 && marks[2] > 200, "{marks:?}");
+    }
+
+    /// The letter in the cell over a mark, if there is one.
+    fn under(line: &str, mark: &str) -> Option<char> {
+        let cells = |c: char| letters::first(c.to_string().as_bytes()).map_or(0, |l| l.cells);
+        let mut left: usize = mark.chars().take_while(|c| *c != '^').map(cells).sum();
+        for c in line.chars().filter(|c| cells(*c) > 0) {
+            if left == 0 {
+                return Some(c);
+            }
+            left = left.checked_sub(cells(c)).expect("a mark begins with a letter");
+        }
+        None
     }
 }

@@ -1,0 +1,143 @@
+//! The line in an error's record, beside the line of the file that its place is in.
+//!
+//! A record has the line of a token as the reader counts it: of a new line that is the line behind it,
+//! of a string the one that it ends in. And the reader's count can fall behind the file's, since a new
+//! line behind a backslash that makes no escape isn't counted (document 01, lexing, rule 5). People look
+//! for a line by its number in the file, so that one is shown, and the other told where it may surprise.
+
+use kettleplume::places::Places;
+use kettleplume::records::{self, message, token};
+use kettleplume::token::Token;
+
+/// What is to be said of an error's line, if it isn't that of the place. A new line stands at the end of
+/// its line and is recorded with the next: of that there is nothing to say.
+pub fn miscount(
+    script: &Places,
+    tokens: &[records::Token],
+    [number, counted, pos]: records::Error,
+) -> Option<String> {
+    let (at, counted) = (pos as usize, counted as usize);
+    let read = match message::LEXERS.contains(&number) {
+        true => at,
+        false => line_place(token_at(tokens, pos)?),
+    };
+    match (script.line(at), script.line(read)) {
+        (line, _) if line == counted => None,
+        (_, end) if end == counted => match script.source().get(at) {
+            Some(b'\n') => None,
+            _ => Some(format!("recorded with line {counted}, where it ends")),
+        },
+        _ => Some(format!(
+            "recorded with line {counted}: a new line behind a backslash isn't counted"
+        )),
+    }
+}
+
+/// The token that starts at a place. An added new line and EOF start at the end, with one line.
+fn token_at(tokens: &[records::Token], pos: u32) -> Option<records::Token> {
+    let first = tokens.partition_point(|token| token[token::START] < pos);
+    tokens.get(first).copied()
+}
+
+/// The place whose line a token's record has, by document 01: behind a new line, at the closing quote
+/// of a string.
+fn line_place([kind, start, length, ..]: records::Token) -> usize {
+    const NEWLINE: u32 = Token::Newline as u32;
+    const STRING: u32 = Token::String as u32;
+    match kind {
+        NEWLINE => (start + length) as usize,
+        STRING => (start + length - 1) as usize,
+        _ => start as usize,
+    }
+}
+
+/// The backslash at which the reading of a string that isn't closed properly was given up, unless that
+/// was at the end of the script.
+pub fn broken_escape(source: &[u8], quote: usize) -> Option<usize> {
+    let mut at = quote + 1;
+    loop {
+        match source.get(at..)? {
+            [b'\\', b'n' | b'r' | b't' | b'\\' | b'"', ..] => at += 2,
+            [b'\\', _, ..] => return Some(at),
+            [] => return None,
+            _ => at += 1,
+        }
+    }
+}
+
+#[cfg(test)]
+mod tests {
+    use super::*;
+    use kettleplume::Tables;
+
+    /// The new lines of a script that the reader doesn't count.
+    fn uncounted(source: &[u8], errors: &[records::Error]) -> Vec<usize> {
+        let unclosed = errors.iter().filter(|e| e[0] == message::UNCLOSED);
+        let escapes = unclosed.filter_map(|e| broken_escape(source, e[2] as usize));
+        escapes.map(|at| at + 1).filter(|at| source[*at] == b'\n').collect()
+    }
+
+    /// Every line that is recorded is the file's where it was counted, less the new lines before it
+    /// that aren't.
+    fn holds_for(source: &[u8]) {
+        let mut tables = Tables::new();
+        let records = tables.read(source);
+        let script = Places::new(source);
+        let uncounted = uncounted(source, records.errors);
+        let stands = |at: usize, line: u32| {
+            let behind = uncounted.iter().filter(|newline| **newline < at).count();
+            assert_eq!(script.line(at), line as usize + behind, "{source:?} {at}");
+        };
+        for token in records.tokens {
+            stands(line_place(*token), token[token::LINE]);
+        }
+        for [number, line, pos] in records.errors.iter().copied() {
+            stands(
+                match number {
+                    message::UNCLOSED => {
+                        broken_escape(source, pos as usize).unwrap_or(source.len())
+                    }
+                    1..message::UNCLOSED => pos as usize,
+                    _ => line_place(token_at(records.tokens, pos).expect("a token")),
+                },
+                line,
+            );
+        }
+    }
+
+    #[test]
+    fn lines_agree_with_the_reader() {
+        const PARTS: [&str; 14] = [
+            "\n", "\n", "\"", "\"", "\\", "n", "a", "é", "!", " ", "#", "\"\\\n", "(", "break",
+        ];
+        let mut state = 1u64;
+        for _ in 0..4000 {
+            let mut source = vec![];
+            for _ in 0..12 {
+                state = state.wrapping_mul(6364136223846793005).wrapping_add(1);
+                source.extend(PARTS[(state >> 33) as usize % PARTS.len()].as_bytes());
+            }
+            holds_for(&source);
+        }
+    }
+
+    fn remarks(source: &str) -> Vec<Option<String>> {
+        let mut tables = Tables::new();
+        let records = tables.read(source.as_bytes());
+        let script = Places::new(source.as_bytes());
+        let errors = records.errors.iter();
+        errors.map(|e| miscount(&script, records.tokens, *e)).collect()
+    }
+
+    #[test]
+    fn what_is_said_of_a_line() {
+        // A new line, and the end of the script.
+        assert_eq!(remarks("(a\n\nb\n"), [None, None]);
+        assert_eq!(remarks("\n"), [None]);
+        let string = "recorded with line 3, where it ends".to_string();
+        assert_eq!(remarks("a \"b\n\nc\"\n"), [Some(string)]);
+        let behind = "recorded with line 1: a new line behind a backslash isn't counted".to_string();
+        // The first error is the string itself, of which something else is said.
+        assert_eq!(remarks("\"\\\na b\n")[1..], [Some(behind)]);
+    }
+}
