@@ -111,9 +111,15 @@ impl Whole {
     pub fn needs(&self) -> [usize; 3] {
         let tokens = self.lexing.tokens.len();
         match &self.parsing {
-            Some(parsing) => [tokens, parsing.errors.len(), parsing.made()],
-            None => [tokens, self.lexing.errors.len(), 0],
+            Some(parsing) => [tokens, self.errors().len(), parsing.made()],
+            None => [tokens, self.errors().len(), 0],
         }
+    }
+
+    /// The errors of lexing and parsing.
+    pub fn errors(&self) -> &[Error] {
+        let parsing = self.parsing.as_ref();
+        parsing.map_or(&self.lexing.errors, |parsing| &parsing.errors)
     }
 
     /// The number of each finished top-level statement.

@@ -114,7 +114,9 @@ pub fn read_state(state: &mut InterpreterState) -> Result<(), Error> {
     }
     let script = crate::read(&state.source).into_parts();
     state.tokens = script.tokens;
-    state.errors.extend(script.errors.iter().map(InterpreterError::from));
+    state
+        .errors
+        .extend(script.errors.iter().map(InterpreterError::from));
     state.stmts.extend(script.stmts);
     script.end
 }

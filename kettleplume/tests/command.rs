@@ -106,8 +106,9 @@ fn read_with_errors() {
         "let oboe = 8\nflute4\n",
         1,
         &[
-            "s.gr:2: Expected new line",
+            "s.gr:2:6: Expected new line",
             "     2 | flute4",
+            "       |      ^",
             "s.gr: read, 3 statements, 1 error",
         ],
     );
@@ -122,9 +123,9 @@ fn stopped_by_the_last_error() {
             "s.gr:2:1: '!' cannot be used here",
             "     2 | !",
             "       | ^",
-            "s.gr:3: Undefined expression",
-            "     2 | !",
+            "s.gr:3:8: Undefined expression",
             "     3 | {return}",
+            "       |        ^",
             "s.gr: not read to its end: the script has a mistake after which the rest can't be read \
              (2 errors, the last of which stopped it; 1 statement before it kept)",
         ],
@@ -133,8 +134,9 @@ fn stopped_by_the_last_error() {
         "1=2",
         1,
         &[
-            "s.gr:1: Undefined statement",
+            "s.gr:1:2: Undefined statement",
             "     1 | 1=2",
+            "       |  ^",
             "s.gr: not read to its end: the script has a mistake after which the rest can't be read \
              (1 error, which stopped it; no statements before it kept)",
         ],
@@ -258,8 +260,9 @@ fn a_two_byte_letter_has_two_errors_at_one_place() {
             "     1 | let flûte",
             "       |       ^",
             "       = U+00FB, byte 2 of 2",
-            "s.gr:1: Expected new line",
+            "s.gr:1:8: Expected new line",
             "     1 | let flûte",
+            "       |        ^",
             "s.gr: read, 2 statements, 3 errors",
         ],
     );
@@ -317,9 +320,9 @@ fn lines_are_the_files_own() {
             "     3 | let d !",
             "       |       ^",
             "       = recorded with line 2: a new line behind a backslash isn't counted",
-            "s.gr:1: Expected new line",
-            "     1 | \"a\\",
+            "s.gr:2:7: Expected new line",
             "     2 | let b c",
+            "       |       ^",
             "       = recorded with line 1: a new line behind a backslash isn't counted",
             "s.gr: read, 3 statements, 3 errors",
         ],
@@ -327,66 +330,136 @@ fn lines_are_the_files_own() {
 }
 
 #[test]
-fn many_lines_under_one_number_are_cut() {
+fn lines_that_are_counted_as_one() {
     let script = "\"\\\n".repeat(9) + "a b\n";
     let (out, _) = report(script);
-    let last: Vec<&str> = out.lines().rev().take(6).collect();
+    let last: Vec<&str> = out.lines().rev().take(5).collect();
     assert_eq!(
         last,
         [
             "s.gr: read, 2 statements, 10 errors",
             "       = recorded with line 1: a new line behind a backslash isn't counted",
+            "       |   ^",
             "    10 | a b",
-            "       | ...",
-            "     1 | \"\\",
-            "s.gr:1: Expected new line",
+            "s.gr:10:3: Expected new line",
         ]
     );
 }
 
-/// The line of a token at which something is missed is recorded, and a new line's is the one behind it.
-#[test]
-fn the_line_before_is_shown_where_the_mistake_may_stand_there() {
-    let (out, _) = report("let d = {\n    \"a\": \"b\"\n    \"c\": \"d\"\n}\n");
-    let lines: Vec<&str> = out.lines().take(3).collect();
-    assert_eq!(
-        lines,
-        [
-            "s.gr:3: Expected '}' at the end of dict",
-            "     2 |     \"a\": \"b\"",
-            "     3 |     \"c\": \"d\"",
-        ]
-    );
-}
+/// A script, and the report's first lines.
+type Shown = (&'static str, &'static [&'static str]);
 
-/// Of these messages the line is that of a keyword or a mark, never of a new line.
-#[test]
-fn the_line_before_is_not_shown_where_the_line_is_sure() {
-    let (out, _) = report("a\nbreak\nb c\n1 = 2\n");
-    let lines: Vec<&str> = out.lines().take(6).collect();
-    assert_eq!(
-        lines,
-        [
-            "s.gr:2: Statement only allowed for use inside loop",
-            "     2 | break",
-            "s.gr:3: Expected new line",
-            "     3 | b c",
-            "s.gr:4: Undefined statement",
-            "     4 | 1 = 2",
-        ]
-    );
-}
+/// Errors of the parser: each at the start of the token at which it was found.
+#[rustfmt::skip]
+const SHOWN: [Shown; 16] = [
+    ("a b\n", &[
+        "s.gr:1:3: Expected new line",
+        "     1 | a b",
+        "       |   ^",
+    ]),
+    // Tabs stay tabs, so that the mark lines up wherever the terminal stops for them.
+    ("\tlet a\tb\n", &[
+        "s.gr:1:8: Expected new line",
+        "     1 | \tlet a\tb",
+        "       | \t     \t^",
+    ]),
+    // A letter of two bytes, one that is wide, and an accent that is a character of its own.
+    ("let a = \"Flûte\" b\n", &[
+        "s.gr:1:17: Expected new line",
+        "     1 | let a = \"Flûte\" b",
+        "       |                 ^",
+    ]),
+    ("let a = \"水管\" b\n", &[
+        "s.gr:1:14: Expected new line",
+        "     1 | let a = \"水管\" b",
+        "       |                ^",
+    ]),
+    ("\"u\u{302}\" b\n", &[
+        "s.gr:1:5: Expected new line",
+        "     1 | \"u\u{302}\" b",
+        "       |     ^",
+    ]),
+    // The place is a new line: the mark stands behind the last character.
+    ("let d = {\n    \"a\": \"b\"\n    \"c\": \"d\"\n}\n", &[
+        "s.gr:2:13: Expected '}' at the end of dict",
+        "     2 |     \"a\": \"b\"",
+        "       |             ^",
+        "s.gr: not read to its end: the script has a mistake after which the rest can't be read \
+         (1 error, which stopped it; no statements before it kept)",
+    ]),
+    ("let a = (1\r\nlet b\r\n", &[
+        "s.gr:1:11: Expect ')' after expression",
+        "     1 | let a = (1",
+        "       |           ^",
+        "s.gr: read, 2 statements, 1 error",
+    ]),
+    ("[1 # 水\n2]\n", &[
+        "s.gr:1:7: Expected ']' at end of list",
+        "     1 | [1 # 水",
+        "       |        ^",
+    ]),
+    ("(a\n", &[
+        "s.gr:1:3: Expect ')' after expression",
+        "     1 | (a",
+        "       |   ^",
+        "s.gr: read, 1 statement, 1 error",
+    ]),
+    // The place is the end of the script.
+    ("(a", &[
+        "s.gr:1:3: Expect ')' after expression",
+        "     1 | (a",
+        "       |   ^",
+        "       = the script ends here",
+        "s.gr: read, 1 statement, 1 error",
+    ]),
+    ("while \"û\" {\r", &[
+        "s.gr:1:12: Undefined expression",
+        "     1 | while \"û\" {",
+        "       |            ^",
+        "       = the script ends here",
+    ]),
+    ("if a {\n", &[
+        "s.gr:2:1: Undefined expression",
+        "     2 |",
+        "       | ^",
+        "       = the script ends here",
+    ]),
+    ("\n", &[
+        "s.gr:2:1: Expected new line",
+        "     2 |",
+        "       | ^",
+        "       = the script ends here",
+        "s.gr: read, 1 statement, 1 error",
+    ]),
+    // The keyword, and the `=`.
+    ("if a {\n\n    break\n}\n", &[
+        "s.gr:3:5: Statement only allowed for use inside loop",
+        "     3 |     break",
+        "       |     ^",
+        "s.gr: read, 1 statement, 1 error",
+    ]),
+    ("a = b + 1 =\n2\n", &[
+        "s.gr:1:11: Undefined statement",
+        "     1 | a = b + 1 =",
+        "       |           ^",
+    ]),
+    // A string of several lines is recorded with its last.
+    ("a \"b\n\nc\"\n", &[
+        "s.gr:1:3: Expected new line",
+        "     1 | a \"b",
+        "       |   ^",
+        "       = recorded with line 3, where it ends",
+        "s.gr: read, 2 statements, 1 error",
+    ]),
+];
 
 #[test]
-fn errors_at_the_end() {
-    let end = "       = the script ends at line 2";
-    let last = "s.gr: read, 1 statement, 1 error";
-    reports("\n", 1, &["s.gr:2: Expected new line", end, last]);
-    let missed = "s.gr:2: Expect ')' after expression";
-    reports("(a\n", 1, &[missed, "     1 | (a", end, last]);
-    // Without a new line at the end, the end is in the last line.
-    let missed = "s.gr:1: Expect ')' after expression";
-    reports("(a", 1, &[missed, "     1 | (a", last]);
+fn every_error_has_a_line_a_column_and_a_mark() {
+    for (script, lines) in SHOWN {
+        let (out, status) = report(script);
+        let shown: Vec<&str> = out.lines().take(lines.len()).collect();
+        assert_eq!((shown, status), (lines.to_vec(), 1), "{script:?}");
+    }
 }
 
 #[test]
@@ -398,8 +471,9 @@ fn carriage_returns_at_ends_of_lines_are_not_shown() {
             "s.gr:1:7: '!' cannot be used here",
             "     1 | let a !",
             "       |       ^",
-            "s.gr:2: Expected new line",
+            "s.gr:2:7: Expected new line",
             "     2 | let b c",
+            "       |       ^",
             "s.gr: read, 3 statements, 2 errors",
         ],
     );
@@ -415,8 +489,10 @@ fn control_characters_are_not_printed() {
             "     1 | ␛# ␛[2J␇��␍.",
             "       | ^",
             "       = U+001B",
-            "s.gr:2: Expected new line",
-            "       = the script ends at line 2",
+            "s.gr:2:1: Expected new line",
+            "     2 |",
+            "       | ^",
+            "       = the script ends here",
             "s.gr: read, 1 statement, 2 errors",
         ],
     );
@@ -434,6 +510,10 @@ fn long_lines_are_cut_around_the_place() {
     assert_eq!(excerpt[0], format!("     1 | !\"{}...", "t".repeat(98)));
     let excerpt = first_excerpt(format!("\"{s}\" !"));
     assert_eq!(excerpt[0], format!("     1 | ...{}\" !", "s".repeat(97)));
+    // Where the place is the end of a line, all that is shown stands in front of it.
+    let excerpt = first_excerpt(format!("(\"{s}\"\n"));
+    assert_eq!(excerpt[0], format!("     1 | ...{}\"", "s".repeat(99)));
+    assert_eq!(excerpt[1], format!("       | {}^", " ".repeat(103)));
     // A line of as many as are shown is shown whole.
     let excerpt = first_excerpt(format!("!\"{}\"", "t".repeat(97)));
     assert_eq!(excerpt[0], format!("     1 | !\"{}\"", "t".repeat(97)));
@@ -472,7 +552,7 @@ fn files_that_cannot_be_read_do_not_hold_up_the_others() {
     folder.run(&[&["read"], &files[..]].concat()).is(
         2,
         "a.gr: read, 1 statement, no errors\n\
-         b.gr:1: Expected new line\n     1 | b c\nb.gr: read, 2 statements, 1 error\n\
+         b.gr:1:3: Expected new line\n     1 | b c\n       |   ^\nb.gr: read, 2 statements, 1 error\n\
          c.gr: read, 1 statement, no errors\n",
         "kettleplume: missing.gr: there is no such file\n\
          kettleplume: d: this is a directory, not a script\n\
@@ -517,7 +597,7 @@ fn run_with_input(words: &[&str], input: &[u8]) -> Ran {
 #[test]
 fn standard_input() {
     let ran = run_with_input(&["read", "-"], b"a b\n");
-    let out = "standard input:1: Expected new line\n     1 | a b\n\
+    let out = "standard input:1:3: Expected new line\n     1 | a b\n       |   ^\n\
                standard input: read, 2 statements, 1 error\n";
     ran.is(1, out, "");
     run_with_input(&["read", "--outline", "--", "-"], b"").is(0, "o 0 1 0 0 0\nt 0 0 0 1\n", "");

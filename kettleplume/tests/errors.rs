@@ -100,7 +100,7 @@ const CASES: [Case; 17] = [
     // The first new line, since the cursor goes back: not what stands behind.
     ("(a\n\nb\n", [0, 7, 1, 5, 3], &[[12, 2, 2]]),
     // The keyword, also behind new lines.
-    ("{\n  continue\n}\n", [0, 6, 1, 2, 2], &[[19, 2, 4]]),
+    ("{\n  continue\n}\n", [0, 7, 1, 2, 2], &[[19, 2, 4]]),
     // The `=` of the outermost assignment that can't be one.
     ("a = 1 = 2\n", [1, 7, 1, 0, 0], &[[23, 1, 6]]),
     ("1=2", [1, 5, 1, 0, 0], &[[23, 1, 1]]),
@@ -111,7 +111,7 @@ const CASES: [Case; 17] = [
     ("class A { f()", [0, 8, 2, 4, 4], &[[7, 1, 13], [4, 1, 13]]),
     // Bytes are counted, not characters.
     ("\"é\" b", [0, 4, 1, 4, 2], &[[4, 1, 5]]),
-    ("# é\r\n\tbreak\r\n", [0, 4, 1, 3, 2], &[[19, 2, 7]]),
+    ("# é\r\n\tbreak\r\n", [0, 4, 1, 1, 1], &[[19, 2, 7]]),
 ];
 
 #[test]
@@ -129,7 +129,7 @@ fn places_of_the_parsers_errors() {
 #[test]
 fn places_in_scripts_and_states() {
     for (script, _, errors) in CASES {
-        let read = kettleplume::read(script).errors;
+        let read = kettleplume::read(script).into_parts().errors;
         let records: Vec<_> = read
             .iter()
             .map(|e| [e.number, e.recorded_line as u32, e.pos as u32])
@@ -146,14 +146,14 @@ fn places_in_scripts_and_states() {
 #[test]
 fn lines_and_columns_of_places() {
     let places = |script: &str| -> Vec<_> {
-        let errors = kettleplume::read(script).errors;
+        let errors = kettleplume::read(script).into_parts().errors;
         errors.iter().map(|e| (e.line, e.column)).collect()
     };
     assert_eq!(places("let\n"), [(1, 4)]);
     assert_eq!(places("let\r\n"), [(1, 4)]);
-    assert_eq!(places("a\n\tû = 水"), [(2, 2); 2]);
-    assert_eq!(places("\"水\" b"), [(1, 5)]);
+    assert_eq!(places("a\n\t\"水\" b"), [(2, 6)]);
     assert_eq!(places("a \"\n\" \n"), [(1, 3)]);
     assert_eq!(places("\n"), [(2, 1)]);
-    assert_eq!(places("{\n"), [(1, 2)]);
+    assert_eq!(places("{\n"), [(2, 1)]);
+    assert_eq!(places("{"), [(1, 2)]);
 }

@@ -7,6 +7,7 @@ use std::cell::Cell;
 use std::panic::{self, AssertUnwindSafe};
 use std::sync::Once;
 
+use expected::whole::Whole;
 use kettleplume::lexer::Lexer;
 use kettleplume::parser::Parser;
 use kettleplume::state::{InterpreterError, InterpreterState};
@@ -51,8 +52,8 @@ fn left_by_the_original(script: &str, reading: &Reading) -> String {
         errors: reading.errors.clone(),
         stmts: reading.stmts.clone(),
     };
-    for (error, [_, _, pos]) in state.errors.iter_mut().zip(common::errors(script)) {
-        error.pos = pos as usize;
+    for (error, [_, _, pos]) in state.errors.iter_mut().zip(Whole::of(script).errors()) {
+        error.pos = *pos as usize;
     }
     format!("{state:?}")
 }

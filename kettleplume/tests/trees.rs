@@ -2,6 +2,7 @@
 
 mod common;
 
+use expected::whole::Whole;
 use kettleplume::{read, read_with, Error, Tables};
 use oracle::{on_large_stack, Reading, Stop};
 
@@ -29,7 +30,7 @@ fn compare(script: &str, tables: &mut Tables, ends: &mut Ends) {
     let records: Vec<_> = errors
         .map(|e| [e.number, e.recorded_line as u32, e.pos as u32])
         .collect();
-    assert_eq!(records, common::errors(script), "{what}");
+    assert_eq!(records, Whole::of(script).errors(), "{what}");
     // The original goes on where a level too many opens: then only what came before is compared.
     let stmts = match ours.end {
         Err(Error::TooDeep) => ours.stmts.len(),

@@ -260,6 +260,10 @@ module _ (T : List ℕ) (e : ℕ) where
   body-kept Assignment = assignment-kept
   body-kept Operand = unary-kept
 
+-- a table agrees with itself up to any EOF
+pub agree-self : (T : List ℕ) (e : ℕ) → kindAt T e ≡ 0 → Agree e T T
+agree-self T e end = record { counts = refl; end = end; kinds = λ i h. refl; starts = λ i h. refl; lines = λ i h. refl }
+
 -- ---- looking at tokens
 -- the same place, at or before e
 abbrev Place : ℕ → ℕ → ℕ → Type 0
@@ -331,13 +335,13 @@ module _ (T T′ : List ℕ) (e : ℕ) (a : Agree e T T′) where
       go none = none
 
 -- ---- steps of a reading
-abbrev cursorOf : Reply → ℕ
+abbrev pub cursorOf : Reply → ℕ
 cursorOf (reply q g E N) = q .current
 
 ahead-is : (e : ℕ) {r r′ : Reply} → Ahead e r r′ → r ≡ r′
 ahead-is e (ahead q g E N l x) = refl
 
-ahead-at : (e : ℕ) {r r′ : Reply} → Ahead e r r′ → cursorOf r ≤ e
+pub ahead-at : (e : ℕ) {r r′ : Reply} → Ahead e r r′ → cursorOf r ≤ e
 ahead-at e (ahead q g E N l x) = l
 
 ahead-then : (e : ℕ) {r r′ : Reply} (k k′ : Found → Reader) → Ahead e r r′ → ((f : Found) (q : State) (E N : List ℕ) → q .current ≤ e → Ahead e (k f q E N) (k′ f q E N)) → Ahead e (andThen r k) (andThen r′ k′)
@@ -438,9 +442,9 @@ module _ (T T′ : List ℕ) (e : ℕ) (a : Agree e T T′) where
 -- ---- the outcomes
 module _ (T : List ℕ) where
   -- past the end every token is an EOF
-  agree-self : Agree (count T) T T
+  past-end : kindAt T (count T) ≡ 0
   unfolding kindAt
-  agree-self = record { counts = refl; end = field-none tokenWidth 0 T (count T) (omega arith); kinds = λ i h. refl; starts = λ i h. refl; lines = λ i h. refl }
+  past-end = field-none tokenWidth 0 T (count T) (omega arith)
 
   stops-or : (e first kept : ℕ) {r r′ : Reply} (k : ℕ → State → List ℕ → List ℕ → Parsed) → Ahead e r r′ → ((n : ℕ) (q : State) (E N : List ℕ) → q .current ≤ e → Stops (k n q E N .outcome)) → Stops (orEnds first kept r k .outcome)
   stops-or e first kept k (ahead q (Node f) E N l x) h = h (f .node) q E N l
@@ -453,7 +457,7 @@ module _ (T : List ℕ) where
   statements-stop : (n first last : ℕ) (p : State) (E N : List ℕ) → p .current ≤ count T → Stops (statements n T first last p E N .outcome)
   unfolding statements
   statements-stop zero first last p E N l = tt
-  statements-stop (suc n) first last p E N l = stops-if (eqb (kindAt T (p .current)) 0) _ _ tt (stops-or (count T) first (p .nodes) _ (top-ahead T T (count T) agree-self p E N l) λ m q E N h. statements-stop n (firstOf first m) m q E (linked N last m) h)
+  statements-stop (suc n) first last p E N l = stops-if (eqb (kindAt T (p .current)) 0) _ _ tt (stops-or (count T) first (p .nodes) _ (top-ahead T T (count T) (agree-self T (count T) past-end) p E N l) λ m q E N h. statements-stop n (firstOf first m) m q E (linked N last m) h)
 
   -- a parsing ends with outcome 0, 1, 6, 7 or 8
   pub parsed-outcome : (errors : ℕ) (E N : List ℕ) → isOutcome (parsed T errors E N .outcome) ≡ true

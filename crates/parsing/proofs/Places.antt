@@ -27,13 +27,13 @@ use Rattle.parser.specs.Whole.{Parsed, ends, topLevel, orEnds, ifEnd, statement
 use Rattle.parser.proofs.Push.{push-node, push-error}
 use Rattle.parsing.specs.Ahead.{Agree}
 use Rattle.parsing.specs.Places.{isParsers, About}
-use Rattle.parsing.proofs.Ahead.{Kept, Spotted, spot, none, check-ahead, matches-ahead, body-kept}
+use Rattle.parsing.proofs.Ahead.{Kept, agree-self, Spotted, spot, none, check-ahead, matches-ahead, body-kept}
 use Rattle.parsing.proofs.Frame.{stateOf, errorsOf}
 
 -- token e is an EOF; a errors were there before
 module _ (T : List ℕ) (e a : ℕ) (end : kindAt T e ≡ EOF) where
   same : Agree e T T
-  same = record { counts = refl; end = end; kinds = λ i h. refl; starts = λ i h. refl; lines = λ i h. refl }
+  same = agree-self T e end
 
   -- the errors from a on, of n, are about tokens up to e
   abbrev Placed : ℕ → List ℕ → Type 0

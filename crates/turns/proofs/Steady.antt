@@ -21,12 +21,11 @@ use Rattle.parser.specs.Tables.{Reply, reply, andThen, consumeAt}
 use Rattle.parser.specs.Programs.{Declaration}
 use Rattle.parser.specs.Grammar.{lower}
 use Rattle.trees.specs.Trees.{Statement}
-use Rattle.parsing.specs.Ahead.{Agree}
 use Rattle.parser.specs.Whole.{topLevel}
 use Rattle.progress.proofs.Moves.{Past, never}
 use Rattle.progress.proofs.Fuel.{top-moves}
 use Rattle.parsing.proofs.Frame.{Grown, top-frames, grown-consume}
-use Rattle.parsing.proofs.Ahead.{Ahead, ahead, top-ahead}
+use Rattle.parsing.proofs.Ahead.{agree-self, cursorOf, ahead-at, top-ahead}
 use Rattle.trees.proofs.TreeTyping.{Done, Held}
 use Rattle.trees.proofs.Trees.{lower-reads}
 use Rattle.host.specs.declared.Parser.{Parser}
@@ -88,13 +87,6 @@ top-in T p E N a b = first (lower T 128 Declaration p E N) (lower-reads T 128 De
     first (reply q (Node f) E N) d = let e : f .node ≡ q .nodes = d .done .2 .root in in-then f q E N _ (grown-consume T Newline 4 q E N) (omega arith)
     first (reply q (Stop o) E N) d = record { kept = tt }
 
--- it ends at or before EOF
-abbrev cursorOf : Reply → ℕ
-cursorOf (reply q g E N) = q .current
-
-ahead-at : (e : ℕ) {r r′ : Reply} → Ahead e r r′ → cursorOf r ≤ e
-ahead-at e (ahead q g E N l x) = l
-
 module _ (T E N : List ℕ) (p : Parser) (fit : Fit T E N p) (q : state.State) (f : Found) (E′ N′ : List ℕ) (t : reply q (Node f) E′ N′ ≡ topLevel T (stateOf p) E N) where
   -- the parser behind it fits the tables that it left
   behind-fit : Fit T E′ (linked N′ (p .last) (f .node)) (behind p q (f .node))
@@ -106,7 +98,7 @@ module _ (T E N : List ℕ) (p : Parser) (fit : Fit T E N p) (q : state.State) (
       let g = subst (Grown (p .errors) E (p .nodes) N) (sym t) (top-frames T (stateOf p) E N) in
       let l = subst Low (sym t) (top-low T (stateOf p) E N (fit .loops)) in
       let i = subst In (sym t) (top-in T (stateOf p) E N (fit .nodes) (omega arith)) in
-      let at : q .current ≤ end .0 = subst (λ (r : Reply). cursorOf r ≤ end .0) (sym t) (ahead-at (end .0) (top-ahead T T (end .0) (record { counts = refl; end = end .2; kinds = λ i h. refl; lines = λ i h. refl }) (stateOf p) E N (omega arith))) in
+      let at : q .current ≤ end .0 = subst (λ (r : Reply). cursorOf r ≤ end .0) (sym t) (ahead-at (end .0) (top-ahead T T (end .0) (agree-self T (end .0) (end .2)) (stateOf p) E N (omega arith))) in
       record {
         tokens = fit .tokens;
         errors = g .errors .within (fit .errors);

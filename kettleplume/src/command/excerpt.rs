@@ -70,7 +70,8 @@ impl Part {
         if after.first().is_some_and(|letter| letter.cells == 0) {
             let under = before.iter().rev().find(|letter| letter.cells > 0);
             let cells = under.map_or(0, |letter| letter.cells);
-            part.before.truncate(part.before.len().saturating_sub(cells));
+            part.before
+                .truncate(part.before.len().saturating_sub(cells));
         }
         part
     }

@@ -214,10 +214,17 @@ mod tests {
                 };
                 assert!(right, "{excerpt}");
                 let lexers = message::LEXERS.contains(number);
-                marks[if lexers { 0 } else { 1 + usize::from(under.is_none()) }] += 1;
+                marks[if lexers {
+                    0
+                } else {
+                    1 + usize::from(under.is_none())
+                }] += 1;
             }
         }
-        assert!(marks[0] > 5_000 && marks[1] > 200 && marks[2] > 200, "{marks:?}");
+        assert!(
+            marks[0] > 5_000 && marks[1] > 200 && marks[2] > 200,
+            "{marks:?}"
+        );
     }
 
     /// The letter in the cell over a mark, if there is one.
@@ -228,7 +235,9 @@ mod tests {
             if left == 0 {
                 return Some(c);
             }
-            left = left.checked_sub(cells(c)).expect("a mark begins with a letter");
+            left = left
+                .checked_sub(cells(c))
+                .expect("a mark begins with a letter");
         }
         None
     }

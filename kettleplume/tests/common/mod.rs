@@ -1,16 +1,14 @@
-//! Scripts that the original and this crate are both given, and the errors that they have.
+//! Scripts that the original and this crate are both given.
 
 use std::fs;
 use std::path::Path;
 
 use expected::dice::Dice;
 use expected::maker::Maker;
-use expected::records;
 use expected::scripts::{
     around, many, LEFT_OF_EQUAL, MESSAGES, MORE_WAYS, NEWLINES, STARS, UNSTARRED, WAYS, WORKED,
 };
 use expected::spellings::{BETWEEN, NUMBERS, STRINGS};
-use expected::whole::Whole;
 
 /// How many scripts are made at random.
 const MADE: usize = 6_000;
@@ -36,12 +34,6 @@ pub fn scripts() -> Vec<String> {
     scripts.extend(examples());
     scripts.extend(made());
     scripts
-}
-
-/// The errors of a script as records: the original's, the parser's with their places.
-pub fn errors(script: &str) -> Vec<records::Error> {
-    let whole = Whole::of(script);
-    whole.within(whole.needs()).errors
 }
 
 /// What is more than its marks: numbers, strings, comments, and what is no token.
