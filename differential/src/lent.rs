@@ -8,7 +8,7 @@
 use std::collections::BTreeMap;
 
 use expected::records::{
-    node, outcome, token, Token, ERROR_WORDS, NODE_WORDS, TOKEN_WORDS, WIDTHS,
+    node, outcome, token, Error, Token, ERROR_WORDS, NODE_WORDS, TOKEN_WORDS, WIDTHS,
 };
 use kettleplume::border::{Answer, Parser};
 
@@ -220,7 +220,8 @@ fn wrong(before: &Lent, after: &Lent, answer: &Answer) -> Option<&'static str> {
     kept(before, after)
 }
 
-/// What a read that goes on leaves: tokens, records before those that it adds, and the counts' order.
+/// What a read that goes on leaves: tokens, records before those that it adds, errors that are about
+/// tokens, and the counts' order.
 fn kept(before: &Lent, after: &Lent) -> Option<&'static str> {
     let (p, q) = (&before.parser, &after.parser);
     let words = |parser: &Parser| {
@@ -242,6 +243,8 @@ fn kept(before: &Lent, after: &Lent) -> Option<&'static str> {
         || after.errors[new_errors..] != before.errors[new_errors..]
     {
         Some("the errors")
+    } else if !about_tokens(after, &after.errors[errors..new_errors]) {
+        Some("the place of an error")
     } else if q.nodes < p.nodes || !same_nodes {
         Some("the nodes")
     } else if q.ended != 0 && after.nodes[new_nodes..].iter().any(|&word| word != 0) {
@@ -249,4 +252,15 @@ fn kept(before: &Lent, after: &Lent) -> Option<&'static str> {
     } else {
         (q.ended == 0 && q.current <= p.current).then_some("the cursor")
     }
+}
+
+/// Whether each of these errors has the line and the start of one of the tokens.
+fn about_tokens(lent: &Lent, errors: &[u32]) -> bool {
+    let tokens: &[Token] = lent.tokens.as_chunks().0;
+    let tokens = &tokens[..lent.parser.tokens as usize];
+    let errors: &[Error] = errors.as_chunks().0;
+    errors.iter().all(|[_, line, pos]| {
+        let mut places = tokens.iter().map(|t| (t[token::LINE], t[token::START]));
+        places.any(|place| place == (*line, *pos))
+    })
 }

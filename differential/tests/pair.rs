@@ -89,6 +89,6 @@ fn kinds_that_no_token_has_match_nothing() {
         lent.tokens[TOKEN_WORDS] = kind;
         let answer = lent.next();
         assert_eq!((answer.outcome, answer.errors, answer.nodes), (MORE, 1, 2));
-        assert_eq!(lent.errors[..ERROR_WORDS], [message::NEW_LINE, 2, 0]);
+        assert_eq!(lent.errors[..ERROR_WORDS], [message::NEW_LINE, 2, 1]);
     }
 }
