@@ -286,7 +286,7 @@ fn placed(error: &InterpreterError, tokens: &[Token]) -> Error {
 }
 
 /// The same error as the unchanged original has it, which gives the parser's no place.
-pub fn without_place(error: &Error) -> Error {
+fn without_place(error: &Error) -> Error {
     let mut error = *error;
     if !message::LEXERS.contains(&error[records::error::MESSAGE]) {
         error[records::error::POS] = 0;

@@ -7,7 +7,7 @@ use crate::records::outcome;
 /// Why a reading did not come to the end of its script, or why a call was refused.
 ///
 /// A script whose reading ends (document 01's outcome 0) has no such error, though it may have
-/// recorded ones, with a message and a line.
+/// recorded ones, with a message and a place: [`Recorded`](crate::Recorded).
 #[derive(Debug, Clone, Copy, PartialEq, Eq, Hash)]
 pub enum Error {
     /// 1: a mistake after which the rest can't be read. The last recorded error says which.

@@ -45,9 +45,10 @@
 //! assert_eq!((state.tokens.len(), state.stmts.len()), (5, 1));
 //! ```
 //!
-//! The state holds what the original leaves in it: the same tokens, errors and statements; only the
-//! `pos` of the parser's errors, which is always 0 in the original, is here the place in the source
-//! ([`Recorded::pos`] says which). Where the original panics, these panic, since someone may catch it: behind an error after which it can't go
+//! The state holds what the original leaves in it: the same tokens, errors and statements. Only the
+//! `pos` of the parser's errors, which in the original is always 0, is here the place in the source
+//! ([`Recorded::pos`] says which, [`Places`](places::Places) in which line and column it is). Where the
+//! original panics, these panic, since someone may catch it: behind an error after which it can't go
 //! on, and at a number with a point that runs to the last byte. The state then holds what the
 //! original recorded before. They also panic where only this crate gives up: a script over
 //! [`LONGEST`] bytes, more than 128 levels, trees over [`TREE_LIMIT`], and tokens that are not those

@@ -155,10 +155,6 @@ pub mod message {
     pub const UNCLOSED: u32 = 3;
     /// A new line is missing.
     pub const NEW_LINE: u32 = 4;
-    /// break or continue outside of a loop.
-    pub const OUTSIDE_LOOP: u32 = 19;
-    /// What stands left of `=` can't be assigned to.
-    pub const ASSIGNED: u32 = 23;
     /// No expression begins there.
     pub const EXPRESSION: u32 = 28;
 

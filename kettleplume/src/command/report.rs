@@ -196,7 +196,8 @@ mod tests {
     /// What stands over a mark is what stands at the place; nothing does at an end.
     #[test]
     fn marks_are_under_their_letters() {
-        let (mut tables, mut marks) = (Tables::new(), [0, 0, 0]);
+        let mut tables = Tables::new();
+        let (mut lexers, mut parsers, mut ends) = (0, 0, 0);
         for source in hard_scripts() {
             let script = Places::new(&source);
             for [number, _, pos] in tables.read(&source).errors {
@@ -204,27 +205,25 @@ mod tests {
                 let excerpt = excerpt::marked(&script, at);
                 let (line, mark) = excerpt.split_once('\n').expect("two lines");
                 let under = under(line, mark);
-                // Accents take no cell; one that has a mark is found by its letter.
                 let right = match letters::first(&source[at..]) {
                     None => under.is_none(),
+                    // A carriage return within a line is shown by another character.
                     Some(letter) if "\r\n".contains(letter.char) => {
                         under.is_none() || under == Some(letter.shown)
                     }
+                    // Accents take no cell; one that has a mark is found by its letter.
                     Some(letter) => under == Some(letter.shown) || letter.cells == 0,
                 };
                 assert!(right, "{excerpt}");
-                let lexers = message::LEXERS.contains(number);
-                marks[if lexers {
-                    0
-                } else {
-                    1 + usize::from(under.is_none())
-                }] += 1;
+                match (message::LEXERS.contains(number), under) {
+                    (true, _) => lexers += 1,
+                    (false, Some(_)) => parsers += 1,
+                    (false, None) => ends += 1,
+                }
             }
         }
-        assert!(
-            marks[0] > 5_000 && marks[1] > 200 && marks[2] > 200,
-            "{marks:?}"
-        );
+        let counts = (lexers, parsers, ends);
+        assert!(lexers > 5_000 && parsers > 200 && ends > 200, "{counts:?}");
     }
 
     /// The letter in the cell over a mark, if there is one.
