@@ -1,5 +1,5 @@
 -- Every error that a parsing records is about one of the tokens up to an EOF: it has that token's line, and that token's start as its pos. Assumes nothing.
-use mathlib.Core.Path.{_≡_, refl, sym, subst, _∙_}
+use mathlib.Core.Path.{_≡_, refl, subst, _∙_}
 use mathlib.Core.Bool.{Bool, true, false}
 use mathlib.Core.List.{List}
 use mathlib.Core.Logic.{⊎-elim}
@@ -16,14 +16,13 @@ use Rattle.records.proofs.Room.{lt-or-le}
 use Rattle.records.proofs.Field.{field-put, field-other}
 use Rattle.parser.specs.declared.State.{State}
 use Rattle.parser.specs.declared.Found.{Found}
-use Rattle.parser.specs.declared.Got.{Got}
 use Rattle.parser.specs.declared.Got.the-variants.{Node, Stop}
 use Rattle.parser.specs.declared.Seen.{Seen}
 use Rattle.parser.specs.Tokens.{count, kindAt}
-use Rattle.parser.specs.Tables.{Reply, reply, moved, looped, freshState, plain, errorAt, pushNode, pushError, ifSeen, andThen, consumeAt, requireAt}
+use Rattle.parser.specs.Tables.{Reply, reply, moved, looped, freshState, errorAt, pushNode, pushError, ifSeen, andThen, consumeAt, requireAt}
 use Rattle.parser.specs.Programs.{Reader, Which, Declaration, Prog, give, stop, _>>=_, _>>_, look, check, atEnd, previous, node, link, fail, failAt, consume, require, enterLoop, leaveLoop, insideLoop, inFunction, down, either, restored, run}
 use Rattle.parser.specs.Grammar.{firstOf, body, lower}
-use Rattle.parser.specs.Whole.{Parsed, ends, topLevel, orEnds, ifEnd, statements, parsed}
+use Rattle.parser.specs.Whole.{Parsed, topLevel, orEnds, ifEnd, statements, parsed}
 use Rattle.parser.proofs.Push.{push-node, push-error}
 use Rattle.parsing.specs.Ahead.{Agree}
 use Rattle.parsing.specs.Places.{isParsers, About}

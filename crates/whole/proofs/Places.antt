@@ -27,7 +27,7 @@ use Rattle.parsing.proofs.Frame.{parsed-errors-kept}
 use Rattle.parsing.proofs.Places.{parsed-about}
 use Rattle.entry.specs.Entry.{over, nodesAfter, enteredAfter}
 use Rattle.entry.specs.Reading.{Reading, refused, joined, pickReading, readAfter, reading}
-use Rattle.whole.specs.Places.{OfLexing, OfParsing, Place, lexers, parsers}
+use Rattle.whole.specs.Places.{Place, lexers, parsers}
 use Rattle.whole.proofs.Rooms.{lexed-rooms}
 use Rattle.whole.proofs.Sizes.{Well, well, over-keeps, over-agree}
 
@@ -139,10 +139,11 @@ module _ (s t e n : List ℕ) where
           ∙ ap (λ (c : List ℕ). getD c (errorWidth * k + j) 0) (p .kept)
           ∙ getD-take (errorWidth * d .errorCount) E (errorWidth * k + j) 0 (omega arith)))
           (λ b.
-          let y = parsed-about T m (over-agree (d .tokens) t t m refl l (z .2) .end) (d .errorCount) E N k b h in
+          let f = over-agree (d .tokens) t t m refl l (z .2) .end in
+          let y = parsed-about T m f (d .errorCount) E N k b h in
           let c = start-inside (length s) m (d .tokens) t rows (y .token) (y .up-to) in
           let q = y .pos-is in
-          parsers (record { last = m; last-is = z .1; about = y; inside = omega (arith, q, c) }))
+          parsers (record { last = m; last-is = z .1; eof = f; about = y; inside = omega (arith, q, c) }))
           (lt-or-le k (d .errorCount))
       at false o k h = lexing-place (r false) k h (lexing-room k h) λ j c. refl
 

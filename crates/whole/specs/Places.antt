@@ -1,8 +1,10 @@
 -- Where the errors of a reading stand: each at a byte of the source, or at its end.
 use Prim.Native.Nat.{ℕ, _+_, _≤_, _<_}
 use mathlib.Core.Path.{_≡_}
+use Rattle.token.specs.Kind.{EOF}
 use Rattle.records.specs.Messages.{loneBang, unclosedString}
 use Rattle.records.specs.Table.{field, errorWidth}
+use Rattle.parser.specs.Tokens.{kindAt}
 use Rattle.parsing.specs.Places.{About}
 use Rattle.entry.specs.Reading.{Reading}
 
@@ -16,6 +18,7 @@ pub record OfLexing (n : ℕ) (r : Reading) (k : ℕ) : Type 0 where
 pub record OfParsing (n : ℕ) (r : Reading) (k : ℕ) : Type 0 where
   pub last : ℕ
   pub last-is : r .tokenCount ≡ last + 1
+  pub eof : kindAt (r .tokens) last ≡ EOF
   pub about : About (r .tokens) last (r .errors) k
   pub inside : field errorWidth 2 (r .errors) k ≤ n
 
