@@ -448,7 +448,7 @@ const SHOWN: [Shown; 16] = [
         "s.gr:1:3: Expected new line",
         "     1 | a \"b",
         "       |   ^",
-        "       = recorded with line 3, where it ends",
+        "       = recorded with line 3, where the string ends",
         "s.gr: read, 2 statements, 1 error",
     ]),
 ];

@@ -25,7 +25,9 @@ pub fn miscount(
         (line, _) if line == counted => None,
         (_, end) if end == counted => match script.source().get(at) {
             Some(b'\n') => None,
-            _ => Some(format!("recorded with line {counted}, where it ends")),
+            _ => Some(format!(
+                "recorded with line {counted}, where the string ends"
+            )),
         },
         _ => Some(format!(
             "recorded with line {counted}: a new line behind a backslash isn't counted"
@@ -139,7 +141,7 @@ mod tests {
         // A new line, and the end of the script.
         assert_eq!(remarks("(a\n\nb\n"), [None]);
         assert_eq!(remarks("\n"), [None]);
-        let string = "recorded with line 3, where it ends".to_string();
+        let string = "recorded with line 3, where the string ends".to_string();
         assert_eq!(remarks("a \"b\n\nc\"\n"), [Some(string)]);
         let behind =
             "recorded with line 1: a new line behind a backslash isn't counted".to_string();
