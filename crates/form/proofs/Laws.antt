@@ -70,33 +70,50 @@ pub number-is : (B t ds u : List ℕ) (at k n : ℕ) → ds ≡ digits 10 k n �
 number-is B t ds u at k n e f l h = subst (λ (x : List ℕ). Holds x B u at) (append-assoc t (32 ∷ []) ds ∙ ap (λ (x : List ℕ). t ++ (32 ∷ x)) (e ∙ decimal-is k n l f)) h
 
 -- ---- a line's words, one after the other
-pub fields-start : (B t row u : List ℕ) (from at : ℕ) → Holds t B u at → Holds (t ++ fields row from 0) B u at
+fields-append : (row : List ℕ) (from : ℕ) (ks ls : List ℕ) → fields row from (ks ++ ls) ≡ fields row from ks ++ fields row from ls
 unfolding fields
-fields-start B t row u from at h = subst (λ (x : List ℕ). Holds x B u at) (sym (append-nil t)) h
+fields-append row from [] ls = refl
+fields-append row from (k ∷ ks) ls =
+    ap (λ (x : List ℕ). field (getD row (from + k) 0) ++ x) (fields-append row from ks ls) ∙ sym (append-assoc (field (getD row (from + k) 0)) (fields row from ks) (fields row from ls))
 
-pub fields-more : (B t row u : List ℕ) (from at k n : ℕ) → n ≡ getD row (from + k) 0 → Holds ((t ++ fields row from k) ++ field n) B u at → Holds (t ++ fields row from (k + 1)) B u at
+-- one word more
+fields-suc : (row : List ℕ) (from : ℕ) (ks : List ℕ) (i : ℕ) → i < length ks
+    → fields row from (take i ks) ++ field (getD row (from + getD ks i 0) 0) ≡ fields row from (take (i + 1) ks)
 unfolding fields
-fields-more B t row u from at k n e h =
-    subst (λ (x : List ℕ). Holds x B u at)
-    (append-assoc t (fields row from k) (field n) ∙ ap (λ (m : ℕ). t ++ (fields row from k ++ field m)) e ∙ ap (λ (j : ℕ). t ++ fields row from j) (sym (add-one k))) h
+fields-suc row from ks i l =
+    ap (λ (x : List ℕ). fields row from (take i ks) ++ x) (sym (append-nil (field (getD row (from + getD ks i 0) 0))))
+    ∙ sym (fields-append row from (take i ks) (getD ks i 0 ∷ []))
+    ∙ ap (fields row from) (sym (take-suc ks i 0 l) ∙ ap (λ (j : ℕ). take j ks) (sym (add-one i)))
 
-pub line-is : (B t row u : List ℕ) (letter from at k shown : ℕ) → k ≡ shown → Holds (((t ++ (letter ∷ [])) ++ fields row from k) ++ (10 ∷ [])) B u at → Holds (t ++ lineOf letter row from shown) B u at
-line-is B t row u letter from at k shown e h =
+pub fields-start : (B t row u : List ℕ) (from : ℕ) (ks : List ℕ) (at : ℕ) → Holds t B u at → Holds (t ++ fields row from (take 0 ks)) B u at
+unfolding fields
+fields-start B t row u from ks at h = subst (λ (x : List ℕ). Holds x B u at) (sym (append-nil t)) h
+
+pub fields-more : (B t row u : List ℕ) (from : ℕ) (ks : List ℕ) (at i n : ℕ) → i < length ks → n ≡ getD row (from + getD ks i 0) 0
+    → Holds ((t ++ fields row from (take i ks)) ++ field n) B u at → Holds (t ++ fields row from (take (i + 1) ks)) B u at
+fields-more B t row u from ks at i n l e h =
     subst (λ (x : List ℕ). Holds x B u at)
-    (append-assoc (t ++ (letter ∷ [])) (fields row from k) (10 ∷ []) ∙ append-assoc t (letter ∷ []) (fields row from k ++ (10 ∷ []))
-    ∙ ap (λ (j : ℕ). t ++ (letter ∷ (fields row from j ++ (10 ∷ [])))) e) h
+    (append-assoc t (fields row from (take i ks)) (field n) ∙ ap (λ (m : ℕ). t ++ (fields row from (take i ks) ++ field m)) e
+    ∙ ap (λ (x : List ℕ). t ++ x) (fields-suc row from ks i l)) h
+
+pub line-is : (B t row u : List ℕ) (letter from : ℕ) (ks : List ℕ) (at i : ℕ) → length ks ≤ i
+    → Holds (((t ++ (letter ∷ [])) ++ fields row from (take i ks)) ++ (10 ∷ [])) B u at → Holds (t ++ lineOf letter row from ks) B u at
+line-is B t row u letter from ks at i l h =
+    subst (λ (x : List ℕ). Holds x B u at)
+    (append-assoc (t ++ (letter ∷ [])) (fields row from (take i ks)) (10 ∷ []) ∙ append-assoc t (letter ∷ []) (fields row from (take i ks) ++ (10 ∷ []))
+    ∙ ap (λ (j : List ℕ). t ++ (letter ∷ (fields row from j ++ (10 ∷ [])))) (take-all i ks l)) h
 
 -- ---- the lines of a table, one after the other
-pub lines-start : (B t row u : List ℕ) (letter w shown at : ℕ) → Holds t B u at → Holds (t ++ linesOf letter row w shown 0) B u at
+pub lines-start : (B t row u : List ℕ) (letter w : ℕ) (ks : List ℕ) (at : ℕ) → Holds t B u at → Holds (t ++ linesOf letter row w ks 0) B u at
 unfolding linesOf
-lines-start B t row u letter w shown at h = subst (λ (x : List ℕ). Holds x B u at) (sym (append-nil t)) h
+lines-start B t row u letter w ks at h = subst (λ (x : List ℕ). Holds x B u at) (sym (append-nil t)) h
 
-pub lines-more : (B t row u : List ℕ) (letter w shown at i from : ℕ) → from ≡ w * i → Holds ((t ++ linesOf letter row w shown i) ++ lineOf letter row from shown) B u at → Holds (t ++ linesOf letter row w shown (i + 1)) B u at
+pub lines-more : (B t row u : List ℕ) (letter w : ℕ) (ks : List ℕ) (at i from : ℕ) → from ≡ w * i → Holds ((t ++ linesOf letter row w ks i) ++ lineOf letter row from ks) B u at → Holds (t ++ linesOf letter row w ks (i + 1)) B u at
 unfolding linesOf
-lines-more B t row u letter w shown at i from e h =
+lines-more B t row u letter w ks at i from e h =
     subst (λ (x : List ℕ). Holds x B u at)
-    (append-assoc t (linesOf letter row w shown i) (lineOf letter row from shown) ∙ ap (λ (m : ℕ). t ++ (linesOf letter row w shown i ++ lineOf letter row m shown)) e
-    ∙ ap (λ (j : ℕ). t ++ linesOf letter row w shown j) (sym (add-one i))) h
+    (append-assoc t (linesOf letter row w ks i) (lineOf letter row from ks) ∙ ap (λ (m : ℕ). t ++ (linesOf letter row w ks i ++ lineOf letter row m ks)) e
+    ∙ ap (λ (j : ℕ). t ++ linesOf letter row w ks j) (sym (add-one i))) h
 
-pub lines-all : (B t row u : List ℕ) (letter w shown at i count : ℕ) → i ≡ count → Holds (t ++ linesOf letter row w shown i) B u at → Holds (t ++ linesOf letter row w shown count) B u at
-lines-all B t row u letter w shown at i count e h = subst (λ (j : ℕ). Holds (t ++ linesOf letter row w shown j) B u at) e h
+pub lines-all : (B t row u : List ℕ) (letter w : ℕ) (ks : List ℕ) (at i count : ℕ) → i ≡ count → Holds (t ++ linesOf letter row w ks i) B u at → Holds (t ++ linesOf letter row w ks count) B u at
+lines-all B t row u letter w ks at i count e h = subst (λ (j : ℕ). Holds (t ++ linesOf letter row w ks j) B u at) e h

@@ -5,13 +5,13 @@ use mathlib.Core.List.{List, [], _∷_, _++_}
 use Prim.Native.Nat.{ℕ, _≤_, _<_}
 use native.Mathlib.Omega.{arith}
 use borrow.Author.Tests.{lt-ltb, le-ltb}
-use lib.ListN.{length, replicate}
+use lib.ListN.{length}
 use lib.Seq.{length-take-le}
 use Rattle.io.specs.Counts.{Counts}
 use Rattle.records.specs.Table.{tokenWidth, errorWidth, nodeWidth}
 use Rattle.entry.specs.declared.Answer.{Answer}
-use Rattle.entry.specs.Reading.{Reading, reading, Answers}
-use Rattle.form.specs.Text.{Holds, headOf, linesOf, readOf, textOf, outlineOf}
+use Rattle.entry.specs.Reading.{Reading, Answers}
+use Rattle.form.specs.Text.{Holds, headOf, linesOf, tokenShown, errorShown, nodeShown, readOf, textOf, readWithin, outlineOf}
 use Rattle.form.proofs.Laws.{holds-within}
 
 -- what a promise allows is the reading itself
@@ -24,9 +24,9 @@ pub text-is : (r : Answer) (T E N B u : List ℕ) (at : ℕ)
     → Holds
     ([] ++
     headOf (r .outcome ∷ r .tokens ∷ r .errors ∷ r .nodes ∷ r .first ∷ []) ++
-    linesOf 116 T tokenWidth 4 (r .tokens) ++
-    linesOf 101 E errorWidth 3 (r .errors) ++
-    linesOf 110 N nodeWidth 9 (r .nodes))
+    linesOf 116 T tokenWidth tokenShown (r .tokens) ++
+    linesOf 101 E errorWidth errorShown (r .errors) ++
+    linesOf 110 N nodeWidth nodeShown (r .nodes))
     B u at
     → Holds (textOf (readOf r T E N)) B u at
 unfolding textOf
@@ -36,15 +36,15 @@ text-is r T E N B u at h = h
 pub outline-long : (s B u : List ℕ) (at : ℕ) → 4096 < length s → Holds ([] ++ headOf (4 ∷ 0 ∷ 0 ∷ 0 ∷ 0 ∷ [])) B u at → Holds (outlineOf s) B u at
 unfolding outlineOf
 outline-long s B u at l h =
-    subst (λ (b : Bool). Holds (cond b (headOf (4 ∷ 0 ∷ 0 ∷ 0 ∷ 0 ∷ [])) (textOf (reading s (replicate 14336 0) (replicate 768 0) (replicate 14400 0)))) B u at)
+    subst (λ (b : Bool). Holds (cond b (headOf (4 ∷ 0 ∷ 0 ∷ 0 ∷ 0 ∷ [])) (textOf (readWithin s))) B u at)
     (sym (lt-ltb 4096 (length s) l)) h
 
 -- any other
-pub outline-read : (s B u : List ℕ) (at : ℕ) (r : Answer) (T E N : List ℕ) → length s ≤ 4096 → Answers (reading s (replicate 14336 0) (replicate 768 0) (replicate 14400 0)) r T E N
+pub outline-read : (s B u : List ℕ) (at : ℕ) (r : Answer) (T E N : List ℕ) → length s ≤ 4096 → Answers (readWithin s) r T E N
     → Holds (textOf (readOf r T E N)) B u at → Holds (outlineOf s) B u at
 unfolding outlineOf
 outline-read s B u at r T E N l a h =
-    let d = reading s (replicate 14336 0) (replicate 768 0) (replicate 14400 0) in
+    let d = readWithin s in
     subst (λ (b : Bool). Holds (cond b (headOf (4 ∷ 0 ∷ 0 ∷ 0 ∷ 0 ∷ [])) (textOf d)) B u at) (sym (le-ltb 4096 (length s) l))
     (subst (λ (x : Reading). Holds (textOf x) B u at) (read-is d r T E N a) h)
 

@@ -22,42 +22,55 @@ decimal n = digitsWithin 10 n
 abbrev pub field : ℕ → List ℕ
 field n = 32 ∷ decimal n
 
--- so many words of the table from a place on
-unfoldable pub fields : List ℕ → ℕ → ℕ → List ℕ
-fields t from zero = []
-fields t from (suc k) = fields t from k ++ field (getD t (from + k) 0)
+-- words of the table: those with the given numbers, counted from a place on
+unfoldable pub fields : List ℕ → ℕ → List ℕ → List ℕ
+fields t from [] = []
+fields t from (k ∷ ks) = field (getD t (from + k) 0) ++ fields t from ks
 
 -- a letter, such words, and the line's end
-abbrev pub lineOf : ℕ → List ℕ → ℕ → ℕ → List ℕ
+abbrev pub lineOf : ℕ → List ℕ → ℕ → List ℕ → List ℕ
 lineOf letter t from shown = letter ∷ fields t from shown ++ (10 ∷ [])
 
--- the lines of so many records of w words, of which the first are shown
-unfoldable pub linesOf : ℕ → List ℕ → ℕ → ℕ → ℕ → List ℕ
+-- the lines of so many records of w words, and which of the words are shown
+unfoldable pub linesOf : ℕ → List ℕ → ℕ → List ℕ → ℕ → List ℕ
 linesOf letter t w shown zero = []
 linesOf letter t w shown (suc n) = linesOf letter t w shown n ++ lineOf letter t (w * n) shown
 
 -- the answer's line: outcome, tokens, errors, nodes, first statement
 abbrev pub headOf : List ℕ → List ℕ
-headOf row = lineOf 111 row 0 5
+headOf row = lineOf 111 row 0 (0 ∷ 1 ∷ 2 ∷ 3 ∷ 4 ∷ [])
 
--- the whole text of a reading: of a token the first four words, of an error its three, of a node its nine
+-- of a token its kind, start, length and line, and the line where it begins, its last word
+abbrev pub tokenShown : List ℕ
+tokenShown = 0 ∷ 1 ∷ 2 ∷ 3 ∷ 7 ∷ []
+
+-- of an error its three words
+abbrev pub errorShown : List ℕ
+errorShown = 0 ∷ 1 ∷ 2 ∷ []
+
+-- of a node its nine
+abbrev pub nodeShown : List ℕ
+nodeShown = 0 ∷ 1 ∷ 2 ∷ 3 ∷ 4 ∷ 5 ∷ 6 ∷ 7 ∷ 8 ∷ []
+
+-- the whole text of a reading
 unfoldable pub textOf : Reading → List ℕ
 textOf r =
     headOf (r .outcome ∷ r .tokenCount ∷ r .errorCount ∷ r .nodeCount ∷ r .first ∷ []) ++
-    linesOf 116 (r .tokens) tokenWidth 4 (r .tokenCount) ++
-    linesOf 101 (r .errors) errorWidth 3 (r .errorCount) ++
-    linesOf 110 (r .nodes) nodeWidth 9 (r .nodeCount)
+    linesOf 116 (r .tokens) tokenWidth tokenShown (r .tokenCount) ++
+    linesOf 101 (r .errors) errorWidth errorShown (r .errorCount) ++
+    linesOf 110 (r .nodes) nodeWidth nodeShown (r .nodeCount)
 
 -- an answer and the tables that it left, as a reading
 abbrev pub readOf : Answer → List ℕ → List ℕ → List ℕ → Reading
 readOf r T E N = record { outcome = r .outcome; tokenCount = r .tokens; errorCount = r .errors; nodeCount = r .nodes; first = r .first; tokens = T; errors = E; nodes = N }
 
--- what `outline` prints of a script: it has room for 4,096 bytes, 2,048 tokens, 256 errors and 1,600 nodes
+-- the reading of a script into empty tables with room for 2,048 tokens, 256 errors and 1,600 nodes
+abbrev pub readWithin : List ℕ → Reading
+readWithin s = reading s (replicate (tokenWidth * 2048) 0) (replicate (errorWidth * 256) 0) (replicate (nodeWidth * 1600) 0)
+
+-- what `outline` prints of a script: it has room for 4,096 bytes
 unfoldable pub outlineOf : List ℕ → List ℕ
-outlineOf s =
-    cond (ltb 4096 (length s))
-    (headOf (4 ∷ 0 ∷ 0 ∷ 0 ∷ 0 ∷ []))
-    (textOf (reading s (replicate 14336 0) (replicate 768 0) (replicate 14400 0)))
+outlineOf s = cond (ltb 4096 (length s)) (headOf (4 ∷ 0 ∷ 0 ∷ 0 ∷ 0 ∷ [])) (textOf (readWithin s))
 
 -- a buffer whose first bytes are a text, as far as there is room for it; behind them it is as it was before
 pub record Holds (text : List ℕ) (before : List ℕ) (buffer : List ℕ) (at : ℕ) : Type 0 where

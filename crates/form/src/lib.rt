@@ -11,6 +11,13 @@ use entry::Answer;
 // The longest script that is read.
 const MOST_BYTES: usize = 4096;
 
+// Words for 2,048 tokens, 256 errors and 1,600 nodes.
+const TOKEN_WORDS: usize = records::TOKEN_WIDTH * 2048;
+
+const ERROR_WORDS: usize = records::ERROR_WIDTH * 256;
+
+const NODE_WORDS: usize = records::NODE_WIDTH * 1600;
+
 // One byte more.
 fn push(out: &mut [u8], at: usize, byte: u8) -> usize
     ensures { λ r. ⌜ ((T B : List ℕ) → Holds T B (now (out .entry)) at → Holds (T ++ (byte ∷ [])) B (now (out .exit)) r) ⌝ }
@@ -45,30 +52,42 @@ fn number(out: &mut [u8], at: usize, n: u32) -> usize
     text(out, end, &digits[..k])
 }
 
-// A word of a table; 0 past its end.
-fn word(table: &[u32], i: usize) -> u32
-    ensures { λ r. ⌜ r ≡ getD (now (table .entry)) i 0 ⌝ }
+// Word k of a table, counted from a place on; 0 past its end.
+fn word(table: &[u32], from: usize, k: usize) -> u32
+    ensures { λ r. ⌜ r ≡ getD (now (table .entry)) (from + k) 0 ⌝ }
 {
-    if i < table.len() { table[i] } else { 0 }
+    if from < table.len() {
+        if k < table.len() - from {
+            let at = from + k;
+            return table[at];
+        }
+    }
+    0
 }
 
 // Where record i of so many words stands.
-fn place(width: u32, i: u32) -> usize
+fn place(width: usize, i: u32) -> usize
     requires { ⌜ width ≤ 9 ⌝ }
     ensures { λ r. ⌜ r ≡ width * i ⌝ }
 {
-    (width as usize) * (i as usize)
+    width * (i as usize)
 }
 
-// A line: a letter and so many words of the table from a place on.
-fn line(out: &mut [u8], at: usize, letter: u8, table: &[u32], from: usize, shown: usize) -> usize
-    requires { ⌜ from + shown ≤ 18446744073709551615 ⌝ }
-    ensures { λ r. ⌜ ((T B : List ℕ) → Holds T B (now (out .entry)) at → Holds (T ++ lineOf letter (now (table .entry)) from shown) B (now (out .exit)) r) ⌝ }
+// A line: a letter, and the words that are shown of the record at a place.
+fn line(
+    out: &mut [u8],
+    at: usize,
+    letter: u8,
+    table: &[u32],
+    from: usize,
+    shown: &[usize],
+) -> usize
+    ensures { λ r. ⌜ ((T B : List ℕ) → Holds T B (now (out .entry)) at → Holds (T ++ lineOf letter (now (table .entry)) from (now (shown .entry))) B (now (out .exit)) r) ⌝ }
 {
     let mut end = push(out, at, letter);
     let mut k = 0;
-    while k < shown {
-        end = number(out, end, word(table, from + k));
+    while k < shown.len() {
+        end = number(out, end, word(table, from, shown[k]));
         k += 1;
     }
     push(out, end, b'\n')
@@ -80,13 +99,12 @@ fn lines(
     at: usize,
     letter: u8,
     table: &[u32],
-    width: u32,
-    shown: usize,
+    width: usize,
+    shown: &[usize],
     count: u32,
 ) -> usize
     requires { ⌜ width ≤ 9 ⌝ }
-    requires { ⌜ shown ≤ 9 ⌝ }
-    ensures { λ r. ⌜ ((T B : List ℕ) → Holds T B (now (out .entry)) at → Holds (T ++ linesOf letter (now (table .entry)) width shown count) B (now (out .exit)) r) ⌝ }
+    ensures { λ r. ⌜ ((T B : List ℕ) → Holds T B (now (out .entry)) at → Holds (T ++ linesOf letter (now (table .entry)) width (now (shown .entry)) count) B (now (out .exit)) r) ⌝ }
 {
     let mut end = at;
     let mut i = 0;
@@ -102,7 +120,8 @@ fn head(out: &mut [u8], at: usize, r: Answer) -> usize
     ensures { λ e. ⌜ ((T B : List ℕ) → Holds T B (now (out .entry)) at → Holds (T ++ headOf (r .outcome ∷ r .tokens ∷ r .errors ∷ r .nodes ∷ r .first ∷ [])) B (now (out .exit)) e) ⌝ }
 {
     let row = [r.outcome, r.tokens, r.errors, r.nodes, r.first];
-    line(out, at, b'o', &row, 0, 5)
+    let shown = [0, 1, 2, 3, 4];
+    line(out, at, b'o', &row, 0, &shown)
 }
 
 // An answer and the tables that it left.
@@ -110,19 +129,38 @@ fn reading(out: &mut [u8], r: Answer, tokens: &[u32], errors: &[u32], nodes: &[u
     ensures { λ e. ⌜ Holds (textOf (readOf r (now (tokens .entry)) (now (errors .entry)) (now (nodes .entry)))) (now (out .entry)) (now (out .exit)) e ⌝ }
 {
     let a = head(out, 0, r);
-    let b = lines(out, a, b't', tokens, 7, 4, r.tokens);
-    let c = lines(out, b, b'e', errors, 3, 3, r.errors);
-    lines(out, c, b'n', nodes, 9, 9, r.nodes)
+    let token = [0, 1, 2, 3, 7];
+    let b = lines(
+        out,
+        a,
+        b't',
+        tokens,
+        records::TOKEN_WIDTH,
+        &token,
+        r.tokens,
+    );
+    let error = [0, 1, 2];
+    let c = lines(
+        out,
+        b,
+        b'e',
+        errors,
+        records::ERROR_WIDTH,
+        &error,
+        r.errors,
+    );
+    let node = [0, 1, 2, 3, 4, 5, 6, 7, 8];
+    lines(out, c, b'n', nodes, records::NODE_WIDTH, &node, r.nodes)
 }
 
-// The outline of a script, within document 01's rooms: words for 2,048 tokens, 256 errors and 1,600 nodes.
+// The outline of a script, within document 01's rooms.
 pub fn outline(source: &[u8], out: &mut [u8]) -> usize
     ensures { λ r. ⌜ Holds (outlineOf (now (source .entry))) (now (out .entry)) (now (out .exit)) r ⌝ }
     ensures { λ r. ⌜ Counts r (now (out .exit)) ⌝ }
 {
-    let mut tokens = [0u32; 14336];
-    let mut errors = [0u32; 768];
-    let mut nodes = [0u32; 14400];
+    let mut tokens = [0u32; TOKEN_WORDS];
+    let mut errors = [0u32; ERROR_WORDS];
+    let mut nodes = [0u32; NODE_WORDS];
     if MOST_BYTES < source.len() {
         let r = Answer {
             outcome: 4,

@@ -11,6 +11,7 @@ use Rattle.literal.specs.declared.Span.{Span}
 use Rattle.literal.specs.declared.Words.{Words}
 use Rattle.literal.specs.declared.Literal.the-variants as literals
 use Rattle.literal.specs.Value.{valueOf, wordsOf}
+use Rattle.records.specs.declared.TokenData.{TokenData}
 use Rattle.records.specs.Table.{room, tokenWidth, errorWidth}
 use Rattle.records.specs.Words.{tokenWords, errorWords}
 use Rattle.records.specs.Outcomes.{ended, numberAtEnd, notText, tooLong, noTokenRoom, noErrorRoom}
@@ -64,6 +65,34 @@ passed n t = record { at = t .at + n; line = t .line; tokenCount = t .tokenCount
 abbrev pub noValue : Words
 noValue = record { sort = 0; low = 0; high = 0 }
 
+-- the record of a token of n bytes that passes m newlines, met at a place with the line counter at l: they raise the line; it begins where the counter stood
+abbrev pub tokenAt : ℕ → ℕ → ℕ → ℕ → ℕ → Words → TokenData
+tokenAt at l kind n m w = record { kind = kind; start = at; length = n; line = l + m; sort = w .sort; low = w .low; high = w .high; begins = l }
+
+-- n bytes and m newlines further, with such a token more
+abbrev pub withToken : ℕ → ℕ → ℕ → Words → State → State
+withToken kind n m w t = record {
+  at = t .at + n;
+  line = t .line + m;
+  tokenCount = t .tokenCount + 1;
+  last = kind;
+  tokens = t .tokens ++ tokenWords (tokenAt (t .at) (t .line) kind n m w);
+  errorCount = t .errorCount;
+  errors = t .errors;
+}
+
+-- the same, with an error more
+abbrev pub withError : ℕ → ℕ → ℕ → State → State
+withError e n m t = record {
+  at = t .at + n;
+  line = t .line + m;
+  tokenCount = t .tokenCount;
+  last = t .last;
+  tokens = t .tokens;
+  errorCount = t .errorCount + 1;
+  errors = t .errors ++ errorWords (record { message = e; line = t .line + m; pos = t .at });
+}
+
 -- where a token's bytes stand
 abbrev pub spanOf : ℕ → State → Span
 spanOf n t = record { start = t .at; length = n }
@@ -71,35 +100,11 @@ spanOf n t = record { start = t .at; length = n }
 module _ (tokenRoom errorRoom : ℕ) where
   -- a token of n bytes that passes m newlines: they raise the line, then it is emitted; a stop where it finds no room
   abbrev pub token : ℕ → ℕ → ℕ → Words → State → Onward
-  token kind n m w t =
-      pickOnward (ltb (t .tokenCount) tokenRoom)
-      (go
-      (record {
-        at = t .at + n;
-        line = t .line + m;
-        tokenCount = t .tokenCount + 1;
-        last = kind;
-        tokens = t .tokens ++ tokenWords (record { kind = kind; start = t .at; length = n; line = t .line + m; sort = w .sort; low = w .low; high = w .high });
-        errorCount = t .errorCount;
-        errors = t .errors;
-      }))
-      (stop noTokenRoom)
+  token kind n m w t = pickOnward (ltb (t .tokenCount) tokenRoom) (go (withToken kind n m w t)) (stop noTokenRoom)
 
   -- a message about n bytes that pass m newlines; a stop where it finds no room
   abbrev pub error : ℕ → ℕ → ℕ → State → Onward
-  error e n m t =
-      pickOnward (ltb (t .errorCount) errorRoom)
-      (go
-      (record {
-        at = t .at + n;
-        line = t .line + m;
-        tokenCount = t .tokenCount;
-        last = t .last;
-        tokens = t .tokens;
-        errorCount = t .errorCount + 1;
-        errors = t .errors ++ errorWords (record { message = e; line = t .line + m; pos = t .at });
-      }))
-      (stop noErrorRoom)
+  error e n m t = pickOnward (ltb (t .errorCount) errorRoom) (go (withError e n m t)) (stop noErrorRoom)
 
   -- one item: blanks and comments emit nothing; a number with a point that runs to the last byte is a stop
   abbrev pub step : Item → State → Onward

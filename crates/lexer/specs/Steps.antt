@@ -23,7 +23,7 @@ use Rattle.lexer.specs.declared.Next.the-variants.{On, Stop}
 use Rattle.items.specs.declared.Item.{Item}
 use Rattle.items.specs.declared.Item.the-variants.{Space, Comment, Name, Text, Number, Mark, Wrong}
 use Rattle.items.specs.Items.{sizeOf, linesOf, decodedOf}
-use Rattle.lexer.specs.Lex.{noValue}
+use Rattle.lexer.specs.Lex.{noValue, tokenAt}
 
 -- an item that lies within a source of at most 65,535 bytes: its words fit
 abbrev pub Inside : Lexer → Item → Type 0
@@ -43,7 +43,7 @@ errorMore l n m = record { current = l .current + n; line = l .line + m; tokens 
 
 -- the record of a token of n bytes that passes m newlines
 abbrev pub tokenOf : Lexer → ℕ → ℕ → ℕ → Words → TokenData
-tokenOf l kind n m w = record { kind = kind; start = l .current; length = n; line = l .line + m; sort = w .sort; low = w .low; high = w .high }
+tokenOf l kind n m w = tokenAt (l .current) (l .line) kind n m w
 
 -- the record of a message about bytes that pass m newlines
 abbrev pub errorOf : Lexer → ℕ → ℕ → InterpreterError

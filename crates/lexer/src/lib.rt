@@ -231,6 +231,7 @@ fn emit(tokens: &mut [u32], l: Lexer, kind: u32, size: usize, lines: usize, w: W
             sort: w.sort,
             low: w.low,
             high: w.high,
+            begins: l.line,
         },
     );
     if !room {

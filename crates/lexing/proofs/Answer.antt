@@ -39,7 +39,7 @@ front-room : (w : ℕ) (t ws : List ℕ) → length ws ≤ length t → room w (
 front-room w t ws h = room-length w (ws ++ drop (length ws) t) t (length-front t ws (length ws) (sym (length-take-le (length ws) t h)))
 
 -- ---- of the entry: whatever holds of a refusal and of a lexing holds of its answer
-entry : (P : Result → Type 0) (s : List ℕ) (tokenRoom errorRoom : ℕ) → ((o : ℕ) → P (refusal o)) → P (lexed s tokenRoom errorRoom) → P (lexedOf s tokenRoom errorRoom)
+pub entry : (P : Result → Type 0) (s : List ℕ) (tokenRoom errorRoom : ℕ) → ((o : ℕ) → P (refusal o)) → P (lexed s tokenRoom errorRoom) → P (lexedOf s tokenRoom errorRoom)
 unfolding lexedOf
 entry P s tokenRoom errorRoom f g = go (ltb 65535 (length s)) (isText s)
   where

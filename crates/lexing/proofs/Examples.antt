@@ -15,16 +15,16 @@ is o n m t e = record { outcome = o; tokenCount = n; errorCount = m; tokens = t;
 -- the worked example of `outline`: `a = 1` and a newline
 worked : lexedOf (97 ∷ 32 ∷ 61 ∷ 32 ∷ 49 ∷ 10 ∷ []) 100 10
     ≡ is 0 5 0
-    (25 ∷ 0 ∷ 1 ∷ 1 ∷ 0 ∷ 0 ∷ 0 ∷
-    19 ∷ 2 ∷ 1 ∷ 1 ∷ 0 ∷ 0 ∷ 0 ∷
-    27 ∷ 4 ∷ 1 ∷ 1 ∷ 2 ∷ 0 ∷ 0x3ff0_0000 ∷
-    1 ∷ 5 ∷ 1 ∷ 2 ∷ 0 ∷ 0 ∷ 0 ∷
-    0 ∷ 6 ∷ 0 ∷ 2 ∷ 0 ∷ 0 ∷ 0 ∷ []) []
+    (25 ∷ 0 ∷ 1 ∷ 1 ∷ 0 ∷ 0 ∷ 0 ∷ 1 ∷
+    19 ∷ 2 ∷ 1 ∷ 1 ∷ 0 ∷ 0 ∷ 0 ∷ 1 ∷
+    27 ∷ 4 ∷ 1 ∷ 1 ∷ 2 ∷ 0 ∷ 0x3ff0_0000 ∷ 1 ∷
+    1 ∷ 5 ∷ 1 ∷ 2 ∷ 0 ∷ 0 ∷ 0 ∷ 1 ∷
+    0 ∷ 6 ∷ 0 ∷ 2 ∷ 0 ∷ 0 ∷ 0 ∷ 2 ∷ []) []
 unfolding lexedOf lexed isText keywordOf signOf div ofInt toBits
 worked = refl
 
 -- empty: one token
-empty : lexedOf [] 1 0 ≡ is 0 1 0 (0 ∷ 0 ∷ 0 ∷ 1 ∷ 0 ∷ 0 ∷ 0 ∷ []) []
+empty : lexedOf [] 1 0 ≡ is 0 1 0 (0 ∷ 0 ∷ 0 ∷ 1 ∷ 0 ∷ 0 ∷ 0 ∷ 1 ∷ []) []
 unfolding lexedOf lexed isText
 empty = refl
 
@@ -34,15 +34,39 @@ unfolding lexedOf lexed isText
 cut = refl
 
 -- `"\q"`: message 3 at 0 and at 3, only EOF
-bad-escape : lexedOf (34 ∷ 92 ∷ 113 ∷ 34 ∷ []) 9 9 ≡ is 0 1 2 (0 ∷ 4 ∷ 0 ∷ 1 ∷ 0 ∷ 0 ∷ 0 ∷ []) (3 ∷ 1 ∷ 0 ∷ 3 ∷ 1 ∷ 3 ∷ [])
+bad-escape : lexedOf (34 ∷ 92 ∷ 113 ∷ 34 ∷ []) 9 9 ≡ is 0 1 2 (0 ∷ 4 ∷ 0 ∷ 1 ∷ 0 ∷ 0 ∷ 0 ∷ 1 ∷ []) (3 ∷ 1 ∷ 0 ∷ 3 ∷ 1 ∷ 3 ∷ [])
 unfolding lexedOf lexed isText signOf
 bad-escape = refl
 
 -- an escaped newline doesn't raise the line, a newline inside a string does: `"\`, newline, `"`, newline, `"`
 lines : lexedOf (34 ∷ 92 ∷ 10 ∷ 34 ∷ 10 ∷ 34 ∷ []) 9 9
-    ≡ is 0 3 1 (26 ∷ 3 ∷ 3 ∷ 2 ∷ 1 ∷ 1 ∷ 0 ∷ 1 ∷ 6 ∷ 0 ∷ 2 ∷ 0 ∷ 0 ∷ 0 ∷ 0 ∷ 6 ∷ 0 ∷ 2 ∷ 0 ∷ 0 ∷ 0 ∷ []) (3 ∷ 1 ∷ 0 ∷ [])
+    ≡ is 0 3 1
+    (26 ∷ 3 ∷ 3 ∷ 2 ∷ 1 ∷ 1 ∷ 0 ∷ 1 ∷
+    1 ∷ 6 ∷ 0 ∷ 2 ∷ 0 ∷ 0 ∷ 0 ∷ 2 ∷
+    0 ∷ 6 ∷ 0 ∷ 2 ∷ 0 ∷ 0 ∷ 0 ∷ 2 ∷ []) (3 ∷ 1 ∷ 0 ∷ [])
 unfolding lexedOf lexed isText signOf
 lines = refl
+
+-- a string of three lines and the Newline after it: `"x`, newline, `y`, newline, `z"`, newline
+string-of-three : lexedOf (34 ∷ 120 ∷ 10 ∷ 121 ∷ 10 ∷ 122 ∷ 34 ∷ 10 ∷ []) 9 9
+    ≡ is 0 3 0
+    (26 ∷ 0 ∷ 7 ∷ 3 ∷ 1 ∷ 5 ∷ 0 ∷ 1 ∷
+    1 ∷ 7 ∷ 1 ∷ 4 ∷ 0 ∷ 0 ∷ 0 ∷ 3 ∷
+    0 ∷ 8 ∷ 0 ∷ 4 ∷ 0 ∷ 0 ∷ 0 ∷ 4 ∷ []) []
+unfolding lexedOf lexed isText signOf
+string-of-three = refl
+
+-- a Newline begins on the line that it ends, the added one on the line that it has: `a`, newline, newline, `b`
+newlines-of-both-sorts : lexedOf (97 ∷ 10 ∷ 10 ∷ 98 ∷ []) 9 9
+    ≡ is 0 6 0
+    (25 ∷ 0 ∷ 1 ∷ 1 ∷ 0 ∷ 0 ∷ 0 ∷ 1 ∷
+    1 ∷ 1 ∷ 1 ∷ 2 ∷ 0 ∷ 0 ∷ 0 ∷ 1 ∷
+    1 ∷ 2 ∷ 1 ∷ 3 ∷ 0 ∷ 0 ∷ 0 ∷ 2 ∷
+    25 ∷ 3 ∷ 1 ∷ 3 ∷ 0 ∷ 0 ∷ 0 ∷ 3 ∷
+    1 ∷ 4 ∷ 0 ∷ 3 ∷ 0 ∷ 0 ∷ 0 ∷ 3 ∷
+    0 ∷ 4 ∷ 0 ∷ 3 ∷ 0 ∷ 0 ∷ 0 ∷ 3 ∷ []) []
+unfolding lexedOf lexed isText keywordOf signOf
+newlines-of-both-sorts = refl
 
 -- a lone `!` is message 1, a two-byte letter message 2 twice; then the room for errors ends
 marks : lexedOf (33 ∷ 195 ∷ 169 ∷ []) 9 2 ≡ is 6 0 2 [] (1 ∷ 1 ∷ 0 ∷ 2 ∷ 1 ∷ 1 ∷ [])
@@ -50,7 +74,7 @@ unfolding lexedOf lexed isText signOf
 marks = refl
 
 -- room for the name and the closing Newline, not for EOF
-full : lexedOf (97 ∷ []) 2 0 ≡ is 5 2 0 (25 ∷ 0 ∷ 1 ∷ 1 ∷ 0 ∷ 0 ∷ 0 ∷ 1 ∷ 1 ∷ 0 ∷ 1 ∷ 0 ∷ 0 ∷ 0 ∷ []) []
+full : lexedOf (97 ∷ []) 2 0 ≡ is 5 2 0 (25 ∷ 0 ∷ 1 ∷ 1 ∷ 0 ∷ 0 ∷ 0 ∷ 1 ∷ 1 ∷ 1 ∷ 0 ∷ 1 ∷ 0 ∷ 0 ∷ 0 ∷ 1 ∷ []) []
 unfolding lexedOf lexed isText keywordOf
 full = refl
 

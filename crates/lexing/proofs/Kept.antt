@@ -26,7 +26,7 @@ use Rattle.items.specs.declared.Sign.the-variants.{Newline, Blank, Hash, Quote,
 use Rattle.items.specs.declared.Item.{Item}
 use Rattle.items.specs.declared.Item.the-variants.{Space, Comment, Name, Text, Number, Mark, Wrong}
 use Rattle.items.specs.Items.{Row, find, pickSign, signs, signOf, letter, digit, sign, pickClass, pickItem, textItem, lone, pairAt, itemAs, itemOf, sizeOf, linesOf, less, items}
-use Rattle.lexer.specs.Lex.{State, Result, Onward, go, stop, pickOnward, kept, andThen, passed, noValue, spanOf, token, error, step, closing, finish, emit, fresh, lexed}
+use Rattle.lexer.specs.Lex.{State, Result, Onward, go, stop, pickOnward, kept, andThen, passed, noValue, tokenAt, withToken, withError, spanOf, token, error, step, closing, finish, emit, fresh, lexed}
 use Rattle.lexing.specs.Kept.{Good, Placed, InOrder, first, behind, whole, short, Keeps}
 use Rattle.items.proofs.Bounds.{item-bounded}
 
@@ -124,7 +124,7 @@ abbrev total : List Item → ℕ
 total [] = 0
 total (x ∷ xs) = sizeOf x + total xs
 
-less-suc : (n : ℕ) → 1 ≤ n → suc (less n) ≡ n
+pub less-suc : (n : ℕ) → 1 ≤ n → suc (less n) ≡ n
 less-suc zero h = absurd (omega arith)
 less-suc (suc n) h = refl
 
@@ -142,7 +142,7 @@ items-total (b ∷ s) (suc k) h = let e : total (items s k) + k ≡ length s = i
 record Fine (n tokenRoom errorRoom c : ℕ) (t : State) : Type 0 where
   tokens-good : Rows tokenWords (Good n) (t .tokens) (t .tokenCount)
   errors-good : Rows errorWords (Placed n) (t .errors) (t .errorCount)
-  order : (end : ℕ) × (line : ℕ) × InOrder (t .tokens) end line × (end ≤ t .at) × (line ≤ t .line)
+  order : (end : ℕ) × (line : ℕ) × InOrder (t .tokens) (t .tokenCount) end line × (end ≤ t .at) × (line ≤ t .line)
   inside : t .at ≤ n
   line-from : 1 ≤ t .line
   line-to : t .line ≤ t .at + 1
@@ -161,21 +161,10 @@ module _ (n tokenRoom errorRoom : ℕ) where
   fine-token c d kind k m w t f kinds ml le cd = at (ltb (t .tokenCount) tokenRoom) refl
     where
       x : TokenData
-      x = record { kind = kind; start = t .at; length = k; line = t .line + m; sort = w .sort; low = w .low; high = w .high }
+      x = tokenAt (t .at) (t .line) kind k m w
 
       at : (b : Bool) → ltb (t .tokenCount) tokenRoom ≡ b
-          → Next d k t (pickOnward b
-          (go
-          (record {
-            at = t .at + k;
-            line = t .line + m;
-            tokenCount = t .tokenCount + 1;
-            last = kind;
-            tokens = t .tokens ++ tokenWords x;
-            errorCount = t .errorCount;
-            errors = t .errors;
-          }))
-          (stop 5))
+          → Next d k t (pickOnward b (go (withToken kind k m w t)) (stop 5))
       at true e =
           let r : t .tokenCount < tokenRoom = ltb-true (t .tokenCount) tokenRoom e in
           let lf = f .line-from in
@@ -183,9 +172,9 @@ module _ (n tokenRoom errorRoom : ℕ) where
           let fw = f .few in
           let o = f .order in (
             record {
-              tokens-good = more (f .tokens-good) x (record { kind-from = kinds .0; kind-to = kinds .1; inside = le; line-from = omega arith; line-to = omega arith });
+              tokens-good = more (f .tokens-good) x (record { kind-from = kinds .0; kind-to = kinds .1; inside = le; begins-from = lf; begins-to = omega arith; line-to = omega arith });
               errors-good = f .errors-good;
-              order = (t .at + k, t .line + m, behind (o .2) x (o .3) (omega arith), le-refl (t .at + k), le-refl (t .line + m));
+              order = (t .at + k, t .line + m, behind (o .2) x (o .3) (o .4) (omega arith), le-refl (t .at + k), le-refl (t .line + m));
               inside = le;
               line-from = omega arith;
               line-to = omega arith;
@@ -205,18 +194,7 @@ module _ (n tokenRoom errorRoom : ℕ) where
       x = record { message = e; line = t .line + m; pos = t .at }
 
       at : (b : Bool) → ltb (t .errorCount) errorRoom ≡ b
-          → Next c k t (pickOnward b
-          (go
-          (record {
-            at = t .at + k;
-            line = t .line + m;
-            tokenCount = t .tokenCount;
-            last = t .last;
-            tokens = t .tokens;
-            errorCount = t .errorCount + 1;
-            errors = t .errors ++ errorWords x;
-          }))
-          (stop 6))
+          → Next c k t (pickOnward b (go (withError e k m t)) (stop 6))
       at true h =
           let r : t .errorCount < errorRoom = ltb-true (t .errorCount) errorRoom h in
           let lf = f .line-from in
@@ -287,11 +265,10 @@ module _ (n tokenRoom errorRoom : ℕ) where
   eof-keeps t end f = at (ltb (t .tokenCount) tokenRoom) refl
     where
       d : TokenData
-      d = record { kind = 0; start = t .at; length = 0; line = t .line + 0; sort = 0; low = 0; high = 0 }
+      d = tokenAt (t .at) (t .line) 0 0 0 noValue
 
       at : (b : Bool) → ltb (t .tokenCount) tokenRoom ≡ b
-          → Keeps n tokenRoom errorRoom
-          (andThen (pickOnward b (go (record { at = t .at + 0; line = t .line + 0; tokenCount = t .tokenCount + 1; last = 0; tokens = t .tokens ++ tokenWords d; errorCount = t .errorCount; errors = t .errors })) (stop 5)) t (kept 0))
+          → Keeps n tokenRoom errorRoom (andThen (pickOnward b (go (withToken 0 0 0 noValue t)) (stop 5)) t (kept 0))
       at true e =
           let r : t .tokenCount < tokenRoom = ltb-true (t .tokenCount) tokenRoom e in
           let lf = f .line-from in
@@ -300,10 +277,10 @@ module _ (n tokenRoom errorRoom : ℕ) where
           let i = f .inside in
           let o = f .order in
           record {
-            order = (t .at + 0, t .line + 0, behind (o .2) d (o .3) (omega arith));
+            order = (t .at + 0, t .line + 0, behind (o .2) d (o .3) (o .4) (omega arith));
             ending =
                 whole (t .tokens) (t .tokenCount) d refl (f .tokens-good) (omega arith)
-                (record { kind-is = refl; start-is = end; length-is = refl; line-from = omega arith; line-to = omega arith }) refl refl;
+                (record { kind-is = refl; start-is = end; length-is = refl; begins-is = omega arith; line-from = omega arith; line-to = omega arith }) refl refl;
             errors = f .errors-good;
             token-room = omega arith;
             error-room = f .error-room;

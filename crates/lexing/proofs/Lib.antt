@@ -1,4 +1,5 @@
 pub mod Kept
 pub mod Answer
+pub mod Begins
 pub mod Examples
 pub mod Strings

@@ -11,12 +11,13 @@ use Rattle.records.specs.Messages.{loneBang, unclosedString}
 use Rattle.records.specs.Outcomes.{ended}
 use Rattle.lexer.specs.Lex.{Result}
 
--- a token of a source of n bytes that is not EOF: its kind, its bytes within the source, its line
+-- a token of a source of n bytes that is not EOF: its kind, its bytes within the source, its line, and that it begins on this line or an earlier one
 pub record Good (n : ℕ) (d : TokenData) : Type 0 where
   pub kind-from : kinds.Newline ≤ d .kind
   pub kind-to : d .kind ≤ kinds.Catch
   pub inside : d .start + d .length ≤ n
-  pub line-from : 1 ≤ d .line
+  pub begins-from : 1 ≤ d .begins
+  pub begins-to : d .begins ≤ d .line
   pub line-to : d .line ≤ n + 1
 
 -- an error of lexing: one of the three messages, its pos within the source, its line
@@ -27,19 +28,20 @@ pub record Placed (n : ℕ) (d : InterpreterError) : Type 0 where
   pub line-from : 1 ≤ d .line
   pub line-to : d .line ≤ n + 1
 
--- EOF: an empty token at the source's end
+-- EOF: an empty token at the source's end, which begins on its line
 pub record Eof (n : ℕ) (d : TokenData) : Type 0 where
   pub kind-is : d .kind ≡ kinds.EOF
   pub start-is : d .start ≡ n
   pub length-is : d .length ≡ 0
+  pub begins-is : d .begins ≡ d .line
   pub line-from : 1 ≤ d .line
   pub line-to : d .line ≤ n + 1
 
--- tokens in order, the last of which ends at `end` and has the line `line`: each starts at or behind the end of the one before it, on its line or a later one
-pub data InOrder : List ℕ → ℕ → ℕ → Type 0 where
-  first : InOrder [] 0 1
-  behind : {ws : List ℕ} {end line : ℕ} → InOrder ws end line → (d : TokenData) → end ≤ d .start → line ≤ d .line
-      → InOrder (ws ++ tokenWords d) (d .start + d .length) (d .line)
+-- n tokens in order, the last of which ends at `end` and has the line `line`: each starts at or behind the end of the one before it, and begins on its line or a later one
+pub data InOrder : List ℕ → ℕ → ℕ → ℕ → Type 0 where
+  first : InOrder [] 0 0 1
+  behind : {ws : List ℕ} {n end line : ℕ} → InOrder ws n end line → (d : TokenData) → end ≤ d .start → line ≤ d .begins → d .begins ≤ d .line
+      → InOrder (ws ++ tokenWords d) (n + 1) (d .start + d .length) (d .line)
 
 -- the tokens of a lexing of n bytes: where it reached the end the last is the only EOF; else there is none
 pub data Ending (n : ℕ) (r : Result) : Type 0 where
@@ -50,7 +52,7 @@ pub data Ending (n : ℕ) (r : Result) : Type 0 where
 -- what every lexing of n bytes keeps, with room for so many tokens and errors
 pub record Keeps (n tokenRoom errorRoom : ℕ) (r : Result) : Type 0 where
   pub ending : Ending n r
-  pub order : (end : ℕ) × (line : ℕ) × InOrder (r .tokens) end line
+  pub order : (end : ℕ) × (line : ℕ) × InOrder (r .tokens) (r .tokenCount) end line
   pub errors : Rows errorWords (Placed n) (r .errors) (r .errorCount)
   pub token-room : r .tokenCount ≤ tokenRoom
   pub error-room : r .errorCount ≤ errorRoom

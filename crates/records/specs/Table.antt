@@ -6,9 +6,9 @@ use mathlib.Core.List.{List, _++_}
 use lib.Dec.{leb, ltb}
 use lib.ListN.{length, getD, take, drop, set, replicate}
 
--- a token is seven words
+-- a token is eight words
 abbrev pub tokenWidth : ℕ
-tokenWidth = 7
+tokenWidth = 8
 
 -- an error is three words
 abbrev pub errorWidth : ℕ

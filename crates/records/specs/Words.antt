@@ -5,9 +5,9 @@ use Rattle.records.specs.declared.TokenData.{TokenData}
 use Rattle.records.specs.declared.InterpreterError.{InterpreterError}
 use Rattle.records.specs.declared.Node.{Node}
 
--- a token: kind, start, length, line, value sort, two value words
+-- a token: kind, start, length, line, value sort, two value words, the line where it begins
 abbrev pub tokenWords : TokenData → List ℕ
-tokenWords t = t .kind ∷ t .start ∷ t .length ∷ t .line ∷ t .sort ∷ t .low ∷ t .high ∷ []
+tokenWords t = t .kind ∷ t .start ∷ t .length ∷ t .line ∷ t .sort ∷ t .low ∷ t .high ∷ t .begins ∷ []
 
 -- an error: message, line, pos
 abbrev pub errorWords : InterpreterError → List ℕ

@@ -5,13 +5,13 @@ ghost use Rattle.records.specs.Table.{tokenWidth, errorWidth, nodeWidth,
 ghost use Rattle.records.specs.Words.{tokenWords, errorWords, nodeWords};
 
 // The words of a token, of an error and of a node.
-pub const TOKEN_WIDTH: usize = 7;
+pub const TOKEN_WIDTH: usize = 8;
 
 pub const ERROR_WIDTH: usize = 3;
 
 pub const NODE_WIDTH: usize = 9;
 
-// The seven words of a token: sort says what value it has, low and high hold it.
+// The words of a token: sort says what value it has, low and high hold it; begins is the line counter when its first byte was met, line the counter behind its last.
 pub struct TokenData {
     pub kind: u32,
     pub start: u32,
@@ -20,6 +20,7 @@ pub struct TokenData {
     pub sort: u32,
     pub low: u32,
     pub high: u32,
+    pub begins: u32,
 }
 
 // The three words of an error.
@@ -211,6 +212,7 @@ pub fn push_token(tokens: &mut [u32], n: u32, t: TokenData) -> bool
         tokens[at + 4] = t.sort;
         tokens[at + 5] = t.low;
         tokens[at + 6] = t.high;
+        tokens[at + 7] = t.begins;
         return true;
     }
     false

@@ -74,6 +74,15 @@ mul-tokens-7 c = omega arith
 slice-write-tokens-7 : tie.Need-slice-write-tokens-7
 slice-write-tokens-7 c = simp length-set (omega arith)
 
+add-tokens-7 : tie.Need-add-tokens-7
+add-tokens-7 c = omega arith
+
+mul-tokens-8 : tie.Need-mul-tokens-8
+mul-tokens-8 c = omega arith
+
+slice-write-tokens-8 : tie.Need-slice-write-tokens-8
+slice-write-tokens-8 c = simp length-set (omega arith)
+
 same-length : tie.Need-same-length
 same-length c = search needs
 
@@ -118,6 +127,9 @@ push-token-spec =
     add-tokens-6
     mul-tokens-7
     slice-write-tokens-7
+    add-tokens-7
+    mul-tokens-8
+    slice-write-tokens-8
     same-length
     returns
     same-length-2
