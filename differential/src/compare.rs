@@ -263,10 +263,10 @@ fn show(text: &mut String, side: &str, lexing: &Lexing) {
     } = lexing;
     let (t, e) = (tokens.len(), errors.len());
     let _ = writeln!(text, "{side}: outcome {outcome}, {t} tokens, {e} errors");
-    for [kind, start, length, line, sort, low, high, ..] in tokens {
+    for [kind, start, length, line, sort, low, high, begins] in tokens {
         let _ = writeln!(
             text,
-            "  token: kind {kind}, start {start}, length {length}, line {line}, value {sort} {low:#x} {high:#x}"
+            "  token: kind {kind}, start {start}, length {length}, line {line}, value {sort} {low:#x} {high:#x}, begins in {begins}"
         );
     }
     for [message, line, pos] in errors {

@@ -18,7 +18,7 @@ pub fn show(host: &mut Host, source: &[u8]) -> Result<String, String> {
     let mut texts = texts(host, source, tokens)?.into_iter();
     let (outcome, t, e) = (answer.outcome, tokens.len(), errors.len());
     let mut out = format!("outcome {outcome}, {t} tokens, {e} errors\n");
-    for [kind, start, length, line, sort, low, high, ..] in tokens {
+    for [kind, start, length, line, sort, low, high, begins] in tokens {
         let lexeme = String::from_utf8_lossy(&source[*start as usize..][..*length as usize]);
         let value = match *sort {
             sort::TEXT => format!(", text {:?}", texts.next().unwrap_or_default()),
@@ -29,7 +29,10 @@ pub fn show(host: &mut Host, source: &[u8]) -> Result<String, String> {
             sort::LONG => ", long number".to_string(),
             _ => String::new(),
         };
-        let _ = writeln!(out, "token {kind} {lexeme:?}, line {line}{value}");
+        let _ = writeln!(
+            out,
+            "token {kind} {lexeme:?}, line {line}, begins in {begins}{value}"
+        );
     }
     for [message, line, pos] in errors {
         let text = oracle::MESSAGES[*message as usize - 1];

@@ -159,7 +159,13 @@ fn record(token: &TokenData, start: usize) -> Token {
     let [sort, low, high] = value_words(&token.literal, &token.lexeme);
     let (kind, length) = (token.token as u32, token.lexeme.len() as u32);
     let (start, line) = (start as u32, token.line as u32);
-    [kind, start, length, line, sort, low, high]
+    [kind, start, length, line, sort, low, high, begins(token)]
+}
+
+/// The line where a token begins, which the original doesn't keep: its counter was raised by the new
+/// lines of the token since. (A string that closes has none behind a backslash.)
+fn begins(token: &TokenData) -> u32 {
+    token.line as u32 - token.lexeme.matches('\n').count() as u32
 }
 
 /// An error of the original as a record.

@@ -71,7 +71,8 @@
 //! The library itself allocates nothing. It fills three tables of words that the caller lends, of any
 //! size, and [`border`] has its functions. Each table holds records one behind the other:
 //!
-//! - a token is [`TOKEN_WORDS`](tables::TOKEN_WORDS) words: kind, start, length, line, value sort, two value words;
+//! - a token is [`TOKEN_WORDS`](tables::TOKEN_WORDS) words: kind, start, length, line, value sort, two value words,
+//!   the line where it begins;
 //! - an error is [`ERROR_WORDS`](tables::ERROR_WORDS) words: message, line, pos;
 //! - a node is [`NODE_WORDS`](tables::NODE_WORDS) words: kind, three tokens, four children, next.
 //!

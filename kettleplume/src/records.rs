@@ -9,8 +9,9 @@ use std::ops::RangeInclusive;
 /// The longest source that is read, in bytes.
 pub const LONGEST: usize = 65_535;
 
-/// Words of a token record: kind, start, length, line, value sort, two value words.
-pub const TOKEN_WORDS: usize = 7;
+/// Words of a token record: kind, start, length, line, value sort, two value words, the line where it
+/// begins.
+pub const TOKEN_WORDS: usize = 8;
 /// Words of an error record: message, line, pos.
 pub const ERROR_WORDS: usize = 3;
 /// Words of a node record: kind, three tokens, four children, next.
@@ -31,10 +32,21 @@ pub mod token {
     pub const KIND: usize = 0;
     /// Where its first byte stands in the source.
     pub const START: usize = 1;
-    /// Its line, as the original counts it.
+    /// How many bytes of the source it is.
+    pub const LENGTH: usize = 2;
+    /// Its line, as the original counts it: of a string the line that it ends in, of a new line the
+    /// line behind it.
     pub const LINE: usize = 3;
-    /// So many words, the first ones, are in an outline.
-    pub const SHOWN: usize = 4;
+    /// The line where it begins, as the original counts it: what its counter was when the token's
+    /// first byte was met. The original keeps no such number.
+    pub const BEGINS: usize = 7;
+    /// The words that are in an outline.
+    pub const SHOWN: [usize; 5] = [KIND, START, LENGTH, LINE, BEGINS];
+
+    /// Those words of a token.
+    pub fn shown(token: &super::Token) -> [u32; SHOWN.len()] {
+        SHOWN.map(|word| token[word])
+    }
 }
 
 /// Which word of an error record is what.

@@ -5,7 +5,7 @@ use std::mem;
 use crate::discard::discard;
 use crate::error::Error;
 use crate::recorded::Recorded;
-use crate::records::outcome;
+use crate::records::{self, outcome};
 use crate::stmt::Stmt;
 use crate::tables::{Records, Tables};
 use crate::token::TokenData;
@@ -22,6 +22,9 @@ use crate::{unfold, values, TREE_LIMIT};
 pub struct Script {
     /// All tokens, from the first to EOF.
     pub tokens: Vec<TokenData>,
+    /// The line where each of them begins, counted as its own line is: a string's line is the one that
+    /// it ends in, a new line's the one behind it.
+    pub begins: Vec<i32>,
     /// What the original records as errors, each with its place: the lexer's, then the parser's.
     pub errors: Vec<Recorded>,
     /// The top-level statements.
@@ -47,6 +50,13 @@ pub struct Script {
 /// assert_eq!(script.tokens.len(), 5);
 /// assert_eq!(script.stmts.len(), 1);
 /// ```
+///
+/// A string of several lines has the last of them as its line; where it begins stands beside it.
+///
+/// ```
+/// let script = kettleplume::read("let remark = \"Boots new,\nreeds old.\"\n");
+/// assert_eq!((script.begins[3], script.tokens[3].line), (1, 2));
+/// ```
 pub fn read(source: impl AsRef<[u8]>) -> Script {
     read_with(&mut Tables::new(), source)
 }
@@ -71,10 +81,16 @@ pub fn read_with(tables: &mut Tables, source: impl AsRef<[u8]>) -> Script {
     let (stmts, end) = statements(&records, &tokens);
     Script {
         errors: Recorded::all(source, records.errors),
+        begins: records.tokens.iter().map(begins).collect(),
         tokens,
         stmts,
         end,
     }
+}
+
+/// The line where a token begins.
+fn begins(record: &records::Token) -> i32 {
+    record[records::token::BEGINS] as i32
 }
 
 /// The statements of a reading, and how it ended.
@@ -105,6 +121,7 @@ pub(crate) fn ended(outcome: u32) -> Result<(), Error> {
 #[derive(Debug, Clone)]
 pub struct Parts {
     pub tokens: Vec<TokenData>,
+    pub begins: Vec<i32>,
     pub errors: Vec<Recorded>,
     pub stmts: Vec<Stmt>,
     pub end: Result<(), Error>,
@@ -120,6 +137,7 @@ impl Script {
     pub fn into_parts(mut self) -> Parts {
         Parts {
             tokens: mem::take(&mut self.tokens),
+            begins: mem::take(&mut self.begins),
             errors: mem::take(&mut self.errors),
             stmts: mem::take(&mut self.stmts),
             end: self.end,

@@ -10,7 +10,7 @@ use std::process::{Command, Output, Stdio};
 use std::sync::atomic::{AtomicUsize, Ordering};
 
 use kettleplume::border::{self, Answer};
-use kettleplume::records::{outcome, token, ERROR_WORDS, NODE_WORDS, TOKEN_WORDS};
+use kettleplume::records::{outcome, ERROR_WORDS, NODE_WORDS, TOKEN_WORDS};
 
 /// A folder of one test, with the scripts that it reads.
 struct Folder(PathBuf);
@@ -351,7 +351,7 @@ type Shown = (&'static str, &'static [&'static str]);
 
 /// Errors of the parser: each at the start of the token at which it was found.
 #[rustfmt::skip]
-const SHOWN: [Shown; 16] = [
+const SHOWN: [Shown; 17] = [
     ("a b\n", &[
         "s.gr:1:3: Expected new line",
         "     1 | a b",
@@ -443,13 +443,20 @@ const SHOWN: [Shown; 16] = [
         "     1 | a = b + 1 =",
         "       |           ^",
     ]),
-    // A string of several lines is recorded with its last.
+    // A string of several lines is recorded with its last; where it begins is told.
     ("a \"b\n\nc\"\n", &[
         "s.gr:1:3: Expected new line",
         "     1 | a \"b",
         "       |   ^",
-        "       = recorded with line 3, where the string ends",
+        "       = the string begins in line 1 and ends in line 3, with which it is recorded",
         "s.gr: read, 2 statements, 1 error",
+    ]),
+    ("let a\nlet b = a \"The Trumpet\n\n\nhas\na new\nboot\n\nand\nshallot.\"\n", &[
+        "s.gr:2:11: Expected new line",
+        "     2 | let b = a \"The Trumpet",
+        "       |           ^",
+        "       = the string begins in line 2 and ends in line 10, with which it is recorded",
+        "s.gr: read, 3 statements, 1 error",
     ]),
 ];
 
@@ -838,15 +845,16 @@ fn within_rooms(script: &[u8]) -> Option<String> {
         first,
     } = answer;
     let mut lines = vec![format!("o {outcome} {t} {e} {n} {first}")];
-    let mut table = |letter: &str, words: &[u32], width: usize, shown: usize, count: u32| {
+    let mut table = |letter: &str, words: &[u32], width: usize, shown: &[usize], count: u32| {
         for record in words.chunks(width).take(count as usize) {
-            let words: Vec<String> = record[..shown].iter().map(u32::to_string).collect();
+            let words: Vec<String> = shown.iter().map(|word| record[*word].to_string()).collect();
             lines.push(format!("{letter} {}", words.join(" ")));
         }
     };
-    table("t", &tokens, TOKEN_WORDS, token::SHOWN, t);
-    table("e", &errors, ERROR_WORDS, ERROR_WORDS, e);
-    table("n", &nodes, NODE_WORDS, NODE_WORDS, n);
+    // The line where a token begins, its last word, stands behind its line.
+    table("t", &tokens, TOKEN_WORDS, &[0, 1, 2, 3, 7], t);
+    table("e", &errors, ERROR_WORDS, &[0, 1, 2], e);
+    table("n", &nodes, NODE_WORDS, &[0, 1, 2, 3, 4, 5, 6, 7, 8], n);
     Some(lines.join("\n") + "\n")
 }
 

@@ -1,7 +1,7 @@
 //! `c HEX tokens errors`: the bytes lexed into a token table and an error table of so many words.
 //!
 //! The answer is `c OUTCOME TOKENS ERRORS`; then, for each token that is kept, `t KIND HEX LINE
-//! SORT VALUE` with the bytes that it stands for; for each error that is kept, `e MESSAGE LINE
+//! BEGINS SORT VALUE` with the bytes that it stands for; for each error that is kept, `e MESSAGE LINE
 //! POS`; and `u 0`: no word behind the kept records has changed.
 
 pub(crate) mod judge;
@@ -12,7 +12,7 @@ use expected::dice::Dice;
 use expected::records::{ERROR_WORDS, TOKEN_WORDS};
 
 /// The most words of a table.
-const MOST_WORDS: usize = 4096;
+const MOST_WORDS: usize = 8192;
 
 /// The seed of the random scripts and of their tables.
 const SEED: u64 = 0x6c65_7869_6e67;
@@ -27,8 +27,8 @@ const NO_VECTORS: [&str; 7] = [
     "c 61",
     "c 61 7",
     "c 61 7 3 1",
-    "c 61 4097 3",
-    "c 61 7 4097",
+    "c 61 8193 3",
+    "c 61 7 8193",
     "c 616 7 3",
 ];
 

@@ -11,6 +11,9 @@ use entry::Answer;
 // The longest script that is read.
 const MOST_BYTES: usize = 4096;
 
+// A buffer of so many bytes holds any outline whole: `outline-fits` in `outlining`.
+pub const OUTLINE_BYTES: usize = 287353;
+
 // Words for 2,048 tokens, 256 errors and 1,600 nodes.
 const TOKEN_WORDS: usize = records::TOKEN_WIDTH * 2048;
 
@@ -74,14 +77,7 @@ fn place(width: usize, i: u32) -> usize
 }
 
 // A line: a letter, and the words that are shown of the record at a place.
-fn line(
-    out: &mut [u8],
-    at: usize,
-    letter: u8,
-    table: &[u32],
-    from: usize,
-    shown: &[usize],
-) -> usize
+fn line(out: &mut [u8], at: usize, letter: u8, table: &[u32], from: usize, shown: &[usize]) -> usize
     ensures { λ r. ⌜ ((T B : List ℕ) → Holds T B (now (out .entry)) at → Holds (T ++ lineOf letter (now (table .entry)) from (now (shown .entry))) B (now (out .exit)) r) ⌝ }
 {
     let mut end = push(out, at, letter);
@@ -130,25 +126,9 @@ fn reading(out: &mut [u8], r: Answer, tokens: &[u32], errors: &[u32], nodes: &[u
 {
     let a = head(out, 0, r);
     let token = [0, 1, 2, 3, 7];
-    let b = lines(
-        out,
-        a,
-        b't',
-        tokens,
-        records::TOKEN_WIDTH,
-        &token,
-        r.tokens,
-    );
+    let b = lines(out, a, b't', tokens, records::TOKEN_WIDTH, &token, r.tokens);
     let error = [0, 1, 2];
-    let c = lines(
-        out,
-        b,
-        b'e',
-        errors,
-        records::ERROR_WIDTH,
-        &error,
-        r.errors,
-    );
+    let c = lines(out, b, b'e', errors, records::ERROR_WIDTH, &error, r.errors);
     let node = [0, 1, 2, 3, 4, 5, 6, 7, 8];
     lines(out, c, b'n', nodes, records::NODE_WIDTH, &node, r.nodes)
 }

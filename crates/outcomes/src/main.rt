@@ -23,7 +23,7 @@ fn letter(i: u8) -> u8 {
 }
 
 fn print(source: &[u8]) {
-    let mut out = [0u8; 266240];
+    let mut out = [0u8; form::OUTLINE_BYTES];
     let n = form::outline(source, &mut out);
     io::write_all(1, &out[..n]);
 }

@@ -1,4 +1,4 @@
--- The outline of any script fits a buffer of 264,825 bytes, so a larger one holds the whole of it. Assumes nothing.
+-- The outline of any script fits a buffer of 287,353 bytes, so a larger one holds the whole of it. Assumes nothing.
 use mathlib.Core.Path.{_≡_, refl, sym, ap, subst, _∙_}
 use mathlib.Core.Bool.{Bool, true, false, cond}
 use mathlib.Core.List.{List, [], _∷_, _++_}
@@ -9,10 +9,10 @@ use lib.Dec.{ltb}
 use lib.ListN.{length, getD, take, drop, replicate, length-append, length-replicate}
 use lib.Seq.{take-all}
 use Rattle.records.specs.Table.{room, tokenWidth, errorWidth, nodeWidth}
-use Rattle.entry.specs.Reading.{Reading, reading}
+use Rattle.entry.specs.Reading.{Reading}
 use Rattle.whole.specs.Sizes.{Within}
 use Rattle.whole.proofs.Rooms.{reading-rooms}
-use Rattle.form.specs.Text.{Holds, digitsWithin, decimal, field, fields, lineOf, linesOf, headOf, textOf, outlineOf}
+use Rattle.form.specs.Text.{Holds, digitsWithin, decimal, field, fields, lineOf, linesOf, headOf, tokenShown, errorShown, nodeShown, textOf, readWithin, outlineOf}
 
 one-more : (b : Bool) (k n : ℕ) (ds : List ℕ) → length ds ≤ k → length (cond b ((48 + n) ∷ []) (ds ++ ((48 + n % 10) ∷ []))) ≤ suc k
 one-more true k n ds h = omega arith
@@ -27,20 +27,20 @@ field-fits : (n : ℕ) → length (field n) ≤ 11
 unfolding decimal
 field-fits n = let h = digits-fit 10 n in omega arith
 
-fields-fit : (t : List ℕ) (from k : ℕ) → length (fields t from k) ≤ 11 * k
+fields-fit : (t : List ℕ) (from : ℕ) (ks : List ℕ) → length (fields t from ks) ≤ 11 * length ks
 unfolding fields
-fields-fit t from zero = omega arith
-fields-fit t from (suc k) =
-    let h = fields-fit t from k in
+fields-fit t from [] = omega arith
+fields-fit t from (k ∷ ks) =
+    let h = fields-fit t from ks in
     let g = field-fits (getD t (from + k) 0) in
-    let e = length-append (fields t from k) (field (getD t (from + k) 0)) in
+    let e = length-append (field (getD t (from + k) 0)) (fields t from ks) in
     omega arith
 
-line-fits : (letter : ℕ) (t : List ℕ) (from shown : ℕ) → length (lineOf letter t from shown) ≤ 11 * shown + 2
+line-fits : (letter : ℕ) (t : List ℕ) (from : ℕ) (shown : List ℕ) → length (lineOf letter t from shown) ≤ 11 * length shown + 2
 line-fits letter t from shown = let h = fields-fit t from shown in let e = length-append (fields t from shown) (10 ∷ []) in omega arith
 
 -- lines of at most w bytes
-lines-fit : (letter : ℕ) (t : List ℕ) (width shown w n : ℕ) → 11 * shown + 2 ≤ w → length (linesOf letter t width shown n) ≤ w * n
+lines-fit : (letter : ℕ) (t : List ℕ) (width : ℕ) (shown : List ℕ) (w n : ℕ) → 11 * length shown + 2 ≤ w → length (linesOf letter t width shown n) ≤ w * n
 unfolding linesOf
 lines-fit letter t width shown w zero h = omega arith
 lines-fit letter t width shown w (suc n) h =
@@ -50,17 +50,17 @@ lines-fit letter t width shown w (suc n) h =
     let m = mul-suc w n in
     omega arith
 
-text-fits : (r : Reading) → length (textOf r) ≤ 57 + 46 * r .tokenCount + 35 * r .errorCount + 101 * r .nodeCount
+text-fits : (r : Reading) → length (textOf r) ≤ 57 + 57 * r .tokenCount + 35 * r .errorCount + 101 * r .nodeCount
 unfolding textOf
 text-fits r =
     let a = headOf (r .outcome ∷ r .tokenCount ∷ r .errorCount ∷ r .nodeCount ∷ r .first ∷ []) in
-    let b = linesOf 116 (r .tokens) tokenWidth 4 (r .tokenCount) in
-    let c = linesOf 101 (r .errors) errorWidth 3 (r .errorCount) in
-    let d = linesOf 110 (r .nodes) nodeWidth 9 (r .nodeCount) in
-    let x = line-fits 111 (r .outcome ∷ r .tokenCount ∷ r .errorCount ∷ r .nodeCount ∷ r .first ∷ []) 0 5 in
-    let y = lines-fit 116 (r .tokens) tokenWidth 4 46 (r .tokenCount) (omega arith) in
-    let z = lines-fit 101 (r .errors) errorWidth 3 35 (r .errorCount) (omega arith) in
-    let w = lines-fit 110 (r .nodes) nodeWidth 9 101 (r .nodeCount) (omega arith) in
+    let b = linesOf 116 (r .tokens) tokenWidth tokenShown (r .tokenCount) in
+    let c = linesOf 101 (r .errors) errorWidth errorShown (r .errorCount) in
+    let d = linesOf 110 (r .nodes) nodeWidth nodeShown (r .nodeCount) in
+    let x = line-fits 111 (r .outcome ∷ r .tokenCount ∷ r .errorCount ∷ r .nodeCount ∷ r .first ∷ []) 0 (0 ∷ 1 ∷ 2 ∷ 3 ∷ 4 ∷ []) in
+    let y = lines-fit 116 (r .tokens) tokenWidth tokenShown 57 (r .tokenCount) (omega arith) in
+    let z = lines-fit 101 (r .errors) errorWidth errorShown 35 (r .errorCount) (omega arith) in
+    let w = lines-fit 110 (r .nodes) nodeWidth nodeShown 101 (r .nodeCount) (omega arith) in
     let e = length-append a b in
     let f = length-append (a ++ b) c in
     let g = length-append (a ++ b ++ c) d in
@@ -70,23 +70,23 @@ text-fits r =
 words-room : (w n m : ℕ) → min (n / w) 4294967295 ≡ m → room w (replicate n 0) ≡ m
 words-room w n m e = ap (λ (k : ℕ). min (k / w) 4294967295) (length-replicate n 0) ∙ e
 
-pub outline-fits : (s : List ℕ) → length (outlineOf s) ≤ 264825
+pub outline-fits : (s : List ℕ) → length (outlineOf s) ≤ 287353
 unfolding outlineOf
 outline-fits s = at (ltb 4096 (length s))
   where
-    at : (b : Bool) → length (cond b (headOf (4 ∷ 0 ∷ 0 ∷ 0 ∷ 0 ∷ [])) (textOf (reading s (replicate 14336 0) (replicate 768 0) (replicate 14400 0)))) ≤ 264825
-    at true = let h = line-fits 111 (4 ∷ 0 ∷ 0 ∷ 0 ∷ 0 ∷ []) 0 5 in omega arith
+    at : (b : Bool) → length (cond b (headOf (4 ∷ 0 ∷ 0 ∷ 0 ∷ 0 ∷ [])) (textOf (readWithin s))) ≤ 287353
+    at true = let h = line-fits 111 (4 ∷ 0 ∷ 0 ∷ 0 ∷ 0 ∷ []) 0 (0 ∷ 1 ∷ 2 ∷ 3 ∷ 4 ∷ []) in omega arith
     at false =
-        let r = reading s (replicate 14336 0) (replicate 768 0) (replicate 14400 0) in
-        let w = reading-rooms s (replicate 14336 0) (replicate 768 0) (replicate 14400 0) in
+        let r = readWithin s in
+        let w = reading-rooms s (replicate (tokenWidth * 2048) 0) (replicate (errorWidth * 256) 0) (replicate (nodeWidth * 1600) 0) in
         let h = text-fits r in
-        let a : r .tokenCount ≤ 2048 = subst (λ (m : ℕ). r .tokenCount ≤ m) (words-room tokenWidth 14336 2048 refl) (w .tokens-fit) in
-        let b : r .errorCount ≤ 256 = subst (λ (m : ℕ). r .errorCount ≤ m) (words-room errorWidth 768 256 refl) (w .errors-fit) in
-        let c : r .nodeCount ≤ 1600 = subst (λ (m : ℕ). r .nodeCount ≤ m) (words-room nodeWidth 14400 1600 refl) (w .nodes-fit) in
+        let a : r .tokenCount ≤ 2048 = subst (λ (m : ℕ). r .tokenCount ≤ m) (words-room tokenWidth (tokenWidth * 2048) 2048 refl) (w .tokens-fit) in
+        let b : r .errorCount ≤ 256 = subst (λ (m : ℕ). r .errorCount ≤ m) (words-room errorWidth (errorWidth * 256) 256 refl) (w .errors-fit) in
+        let c : r .nodeCount ≤ 1600 = subst (λ (m : ℕ). r .nodeCount ≤ m) (words-room nodeWidth (nodeWidth * 1600) 1600 refl) (w .nodes-fit) in
         omega arith
 
 -- what a buffer of at least that size holds is the whole outline, and behind it what it held before
-pub holds-whole : (s B u : List ℕ) (at : ℕ) → 264825 ≤ length B → Holds (outlineOf s) B u at → (at ≡ length (outlineOf s)) × (u ≡ outlineOf s ++ drop at B)
+pub holds-whole : (s B u : List ℕ) (at : ℕ) → 287353 ≤ length B → Holds (outlineOf s) B u at → (at ≡ length (outlineOf s)) × (u ≡ outlineOf s ++ drop at B)
 holds-whole s B u at l h =
     let f = outline-fits s in
     let c = h .count in

@@ -22,13 +22,15 @@ fn decoded(s: &[u8], b: &mut [u8]) {
 // What every word of a table is before.
 const BEFORE: u32 = 7;
 
-// A table has at most 4,096 words.
+// A table has at most so many words.
+const MOST_WORDS: usize = 8192;
+
 fn on_source(s: &[u8], f: Field, source: &[u8]) {
     let t = fields::number(s, f);
     let e = fields::number(s, t);
     if fields::whole(s, e) {
-        let mut tokens = [BEFORE; 4096];
-        let mut errors = [BEFORE; 4096];
+        let mut tokens = [BEFORE; MOST_WORDS];
+        let mut errors = [BEFORE; MOST_WORDS];
         with_tables(
             source,
             &mut tokens,
@@ -84,7 +86,7 @@ fn each_token(source: &[u8], tokens: &[u32], n: u32) {
     }
 }
 
-// The token whose words start at a place: kind, bytes, line and value.
+// The token whose words start at a place: kind, bytes, line, where it begins, and value.
 fn token(source: &[u8], tokens: &[u32], at: usize) {
     if at < tokens.len() {
         record(source, &tokens[at..]);
@@ -99,6 +101,7 @@ fn record(source: &[u8], t: &[u32]) {
     print::word(t[0]);
     span(source, t[1], t[2]);
     print::word(t[3]);
+    print::word(t[7]);
     value(source, t[1], t[4], t[5], t[6]);
 }
 

@@ -90,6 +90,7 @@ fn push_token(t: &mut [u32], n: u32) {
         sort: 105,
         low: 106,
         high: 107,
+        begins: 108,
     };
     let ok = records::push_token(t, n, x);
     pushed(b't', ok, t);

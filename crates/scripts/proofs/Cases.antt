@@ -1,10 +1,11 @@
 -- Scripts with what the original answers: how a case is tried on the definition.
-use Prim.Native.Nat.{ℕ, _+_, _*_}
+use Prim.Native.Nat.{ℕ, _+_, _*_, _-_}
 use Prim.Native.String.{String}
 use mathlib.Core.Bool.{cond}
 use mathlib.Core.List.{List, [], _∷_, _++_}
 use lib.Dec.{eqb}
 use lib.ListN.{replicate, take, drop}
+use Rattle.records.specs.Table.{tokenWidth, errorWidth, nodeWidth}
 use Rattle.entry.specs.Reading.{Reading, reading}
 use Rattle.text.proofs.Codes.{codes}
 
@@ -21,14 +22,18 @@ others w (v ∷ vs) = cond (eqb v w) (others w vs) (v ∷ others w vs)
 abbrev pub kept : Reading → List ℕ
 kept r =
     r .outcome ∷ r .tokenCount ∷ r .errorCount ∷ r .nodeCount ∷ r .first ∷
-    take (3 * r .errorCount) (r .errors) ++
-    take (9 * r .nodeCount) (r .nodes) ++
-    others 7 (drop (3 * r .errorCount) (r .errors)) ++
-    others 0 (drop (9 * r .nodeCount) (r .nodes))
+    take (errorWidth * r .errorCount) (r .errors) ++
+    take (nodeWidth * r .nodeCount) (r .nodes) ++
+    others 7 (drop (errorWidth * r .errorCount) (r .errors)) ++
+    others 0 (drop (nodeWidth * r .nodeCount) (r .nodes))
 
--- what the definition keeps, from tables of sevens with spare tails
+-- a table of sevens with room for n records of w words, and the longest spare tail
+abbrev table : ℕ → ℕ → List ℕ
+table w n = replicate (w * (n + 1) - 1) 7
+
+-- what the definition keeps, from such tables
 abbrev pub answer : Case → List ℕ
-answer (case s t e n ws) = kept (reading (codes s) (replicate (7 * t + 6) 7) (replicate (3 * e + 2) 7) (replicate (9 * n + 8) 7))
+answer (case s t e n ws) = kept (reading (codes s) (table tokenWidth t) (table errorWidth e) (table nodeWidth n))
 
 -- what the original keeps
 abbrev pub expected : Case → List ℕ

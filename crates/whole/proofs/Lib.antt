@@ -2,4 +2,5 @@ pub mod Sizes
 pub mod Rooms
 pub mod Outcome
 pub mod Places
+pub mod Begins
 pub mod One

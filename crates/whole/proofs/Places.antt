@@ -62,7 +62,7 @@ inside s a b = at (ltb 65535 (length s)) (isText s)
     at false true = let k = lexed-keeps s a b in record { tokens = ending-starts (length s) (lexed s a b) (k .ending); errors = k .errors }
 
 -- ---- in a table whose front is rewritten
-front-word : (w : ℕ) (ws t : List ℕ) (n i k : ℕ) → length ws ≡ w * n → w * i + k < w * n → i < room w (over ws t) → field w k (over ws t) i ≡ getD ws (w * i + k) 0
+pub front-word : (w : ℕ) (ws t : List ℕ) (n i k : ℕ) → length ws ≡ w * n → w * i + k < w * n → i < room w (over ws t) → field w k (over ws t) i ≡ getD ws (w * i + k) 0
 front-word w ws t n i k l b h = field-room w k (over ws t) i h ∙ List·getD-append ws (drop (length ws) t) 0 (w * i + k) (omega arith)
 
 -- the tokens, m and EOF, start within the source or at its end

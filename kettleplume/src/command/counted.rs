@@ -9,30 +9,38 @@ use kettleplume::places::Places;
 use kettleplume::records::{self, message, token};
 use kettleplume::token::Token;
 
-/// What is to be said of an error's line, if it isn't that of the place. A new line stands at the end of
-/// its line and is recorded with the next: of that there is nothing to say.
-pub fn miscount(
+/// What is to be said of an error's line: where a string of several lines begins and ends, if the error
+/// is about one, for it is recorded with the last; and that the reader's count has fallen behind. A new
+/// line stands at the end of its line and is recorded with the next: of that there is nothing to say.
+pub fn of_lines(
     script: &Places,
     tokens: &[records::Token],
-    [number, counted, pos]: records::Error,
-) -> Option<String> {
-    let (at, counted) = (pos as usize, counted as usize);
-    let read = match message::LEXERS.contains(&number) {
-        true => at,
-        false => line_place(token_at(tokens, pos)?),
-    };
-    match (script.line(at), script.line(read)) {
-        (line, _) if line == counted => None,
-        (_, end) if end == counted => match script.source().get(at) {
-            Some(b'\n') => None,
-            _ => Some(format!(
-                "recorded with line {counted}, where the string ends"
-            )),
+    [number, recorded, pos]: records::Error,
+) -> Vec<String> {
+    // The reader's count when it met the place, and how many lines further a string there ends.
+    let (met, further) = match message::LEXERS.contains(&number) {
+        true => (recorded, 0),
+        false => match token_at(tokens, pos) {
+            None => return vec![],
+            Some(token) => (token[token::BEGINS], further(&token)),
         },
-        _ => Some(format!(
-            "recorded with line {counted}: a new line behind a backslash isn't counted"
-        )),
+    };
+    let first = script.line(pos as usize);
+    let counted = first == met as usize;
+    let mut notes = vec![];
+    if further > 0 {
+        let last = first + further;
+        let which = if counted { ", with which it is recorded" } else { "" };
+        notes.push(format!(
+            "the string begins in line {first} and ends in line {last}{which}"
+        ));
     }
+    if !counted && first != recorded as usize {
+        notes.push(format!(
+            "recorded with line {recorded}: a new line behind a backslash isn't counted"
+        ));
+    }
+    notes
 }
 
 /// The token that starts at a place. An added new line and EOF start at the end, with one line.
@@ -41,15 +49,11 @@ fn token_at(tokens: &[records::Token], pos: u32) -> Option<records::Token> {
     tokens.get(first).copied()
 }
 
-/// The place whose line a token's record has, by document 01: behind a new line, at the closing quote
-/// of a string.
-fn line_place([kind, start, length, ..]: records::Token) -> usize {
-    const NEWLINE: u32 = Token::Newline as u32;
-    const STRING: u32 = Token::String as u32;
-    match kind {
-        NEWLINE => (start + length) as usize,
-        STRING => (start + length - 1) as usize,
-        _ => start as usize,
+/// How many lines behind the one where it begins a string ends.
+fn further(token: &records::Token) -> usize {
+    match token[token::KIND] == Token::String as u32 {
+        true => (token[token::LINE] - token[token::BEGINS]) as usize,
+        false => 0,
     }
 }
 
@@ -71,6 +75,20 @@ pub fn broken_escape(source: &[u8], quote: usize) -> Option<usize> {
 mod tests {
     use super::*;
     use kettleplume::Tables;
+
+    /// The place whose line a token's record has, by document 01: behind a new line, at the closing
+    /// quote of a string.
+    fn line_place(token: &records::Token) -> usize {
+        const NEWLINE: u32 = Token::Newline as u32;
+        const STRING: u32 = Token::String as u32;
+        let (start, length) = (token[token::START], token[token::LENGTH]);
+        let place = match token[token::KIND] {
+            NEWLINE => start + length,
+            STRING => start + length - 1,
+            _ => start,
+        };
+        place as usize
+    }
 
     /// The new lines of a script that the reader doesn't count.
     fn uncounted(source: &[u8], errors: &[records::Error]) -> Vec<usize> {
@@ -94,7 +112,8 @@ mod tests {
             assert_eq!(script.line(at), line as usize + behind, "{source:?} {at}");
         };
         for token in records.tokens {
-            stands(line_place(*token), token[token::LINE]);
+            stands(line_place(token), token[token::LINE]);
+            stands(token[token::START] as usize, token[token::BEGINS]);
         }
         for [number, line, pos] in records.errors.iter().copied() {
             stands(
@@ -103,7 +122,7 @@ mod tests {
                         broken_escape(source, pos as usize).unwrap_or(source.len())
                     }
                     1..message::UNCLOSED => pos as usize,
-                    _ => line_place(token_at(records.tokens, pos).expect("a token")),
+                    _ => line_place(&token_at(records.tokens, pos).expect("a token")),
                 },
                 line,
             );
@@ -126,26 +145,37 @@ mod tests {
         }
     }
 
-    fn remarks(source: &str) -> Vec<Option<String>> {
+    fn remarks(source: &str) -> Vec<Vec<String>> {
         let mut tables = Tables::new();
         let records = tables.read(source.as_bytes());
         let script = Places::new(source.as_bytes());
         let errors = records.errors.iter();
         errors
-            .map(|e| miscount(&script, records.tokens, *e))
+            .map(|e| of_lines(&script, records.tokens, *e))
             .collect()
     }
 
     #[test]
     fn what_is_said_of_a_line() {
-        // A new line, and the end of the script.
-        assert_eq!(remarks("(a\n\nb\n"), [None]);
-        assert_eq!(remarks("\n"), [None]);
-        let string = "recorded with line 3, where the string ends".to_string();
-        assert_eq!(remarks("a \"b\n\nc\"\n"), [Some(string)]);
-        let behind =
-            "recorded with line 1: a new line behind a backslash isn't counted".to_string();
+        // A new line, the end of the script, and a string of one line.
+        assert_eq!(remarks("(a\n\nb\n"), [[""; 0]]);
+        assert_eq!(remarks("\n"), [[""; 0]]);
+        assert_eq!(remarks("a \"b\"\n"), [[""; 0]]);
+        let string = "the string begins in line 1 and ends in line 3, with which it is recorded";
+        assert_eq!(remarks("a \"b\n\nc\"\n"), [[string]]);
         // The first error is the string itself, of which something else is said.
-        assert_eq!(remarks("\"\\\na b\n")[1..], [Some(behind)]);
+        let behind = "recorded with line 1: a new line behind a backslash isn't counted";
+        assert_eq!(remarks("\"\\\na b\n")[1..], [[behind]]);
+    }
+
+    /// A string of several lines behind a new line that isn't counted: its lines are the file's.
+    #[test]
+    fn what_is_said_of_a_string_behind_a_miscount() {
+        let string = "the string begins in line 2 and ends in line 4";
+        let behind = "recorded with line 3: a new line behind a backslash isn't counted";
+        assert_eq!(remarks("\"\\\na \"b\n\nc\"\n")[1..], [[string, behind]]);
+        // Here the count, which is one behind, is that of the file's line all the same.
+        let string = "the string begins in line 2 and ends in line 3";
+        assert_eq!(remarks("\"\\\na \"b\nc\"\n")[1..], [[string]]);
     }
 }

@@ -6,7 +6,7 @@ use std::fmt::Write as _;
 use kettleplume::records::token;
 use kettleplume::Records;
 
-/// The answer, then the first words of each token, each error and each node.
+/// The answer, then of each token the words that are shown, each error and each node.
 pub fn outline(records: &Records) -> String {
     let answer = records.answer;
     let mut out = String::new();
@@ -24,7 +24,7 @@ pub fn outline(records: &Records) -> String {
     records
         .tokens
         .iter()
-        .for_each(|t| line(&mut out, 't', &t[..token::SHOWN]));
+        .for_each(|t| line(&mut out, 't', &token::shown(t)));
     records.errors.iter().for_each(|e| line(&mut out, 'e', e));
     records.nodes.iter().for_each(|n| line(&mut out, 'n', n));
     out

@@ -6,7 +6,7 @@ use kettleplume::places::Places;
 use kettleplume::records::{self, message};
 use kettleplume::{Error, Records};
 
-use super::counted::{broken_escape, miscount};
+use super::counted::{broken_escape, of_lines};
 use super::excerpt;
 use super::letters;
 
@@ -51,7 +51,7 @@ fn remarks(script: &Places, tokens: &[records::Token], error: records::Error) ->
         notes.push("the script ends here".to_string());
     }
     if number != message::UNCLOSED {
-        notes.extend(miscount(script, tokens, error));
+        notes.extend(of_lines(script, tokens, error));
     }
     notes.iter().map(|text| excerpt::note(text)).collect()
 }

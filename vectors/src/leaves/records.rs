@@ -6,7 +6,6 @@
 
 use crate::sheet::{list, Sheet};
 use expected::records::node::NEXT;
-use expected::records::token::SHOWN;
 use expected::records::{ERROR_WORDS, NODE_WORDS, TOKEN_WORDS};
 
 /// The most words that a table of the test program has.
@@ -54,10 +53,13 @@ fn add_zero(sheet: &mut Sheet, words: usize, n: u32) {
     sheet.add('z', &[&words, &n], &[&list(&table)]);
 }
 
+/// The words of a token that there is a function for: kind, start, length and line.
+const READ: usize = 4;
+
 fn add_read(sheet: &mut Sheet, words: usize, i: u32) {
     let mut table: Vec<u32> = (0..words as u32).collect();
     // Past the end a token reads as zeros, EOF's kind.
-    let token = record(&mut table, TOKEN_WORDS, i).map_or(vec![0; SHOWN], |t| t[..SHOWN].to_vec());
+    let token = record(&mut table, TOKEN_WORDS, i).map_or(vec![0; READ], |t| t[..READ].to_vec());
     let (tokens, errors, nodes) = (words / TOKEN_WORDS, words / ERROR_WORDS, words / NODE_WORDS);
     sheet.add(
         'r',

@@ -15,7 +15,7 @@ use std::ops::Range;
 /// What lexing does, one thing after the other; a record is the fields of the answer.
 enum Event {
     /// With the words of its record that an outline has.
-    Token(String, [u32; SHOWN]),
+    Token(String, [u32; SHOWN.len()]),
     Error(String),
     /// A number with a point runs to the last byte.
     Cut,
@@ -92,10 +92,12 @@ fn events(script: &str) -> Vec<Event> {
         .filter(|e| LEXERS.contains(&message(e)))
         .peekable();
     let mut events = vec![];
-    let mut at = 0;
+    // The next byte, and the original's line counter there: the line of the last token or error.
+    let (mut at, mut counter) = (0, 1);
     while at < source.len() {
         if let Some(error) = errors.next_if(|e| e.pos == at) {
             let message = message(error);
+            counter = error.line as u32;
             events.push(Event::Error(format!("e {message} {} {at}", error.line)));
             at += match message {
                 UNCLOSED => 1 + string(source, at + 1).size,
@@ -109,8 +111,8 @@ fn events(script: &str) -> Vec<Event> {
             let end = at + token.lexeme.len();
             assert!(at < end, "a token before the end has bytes");
             assert_eq!(token.lexeme, script[at..end]);
-            events.push(event(token, source, at..end));
-            at = end;
+            events.push(event(token, source, at..end, counter));
+            (at, counter) = (end, token.line as u32);
         } else {
             assert!(numeral(&source[at..]).cut, "only a number stops the lexing");
             assert_eq!(reading.stop, Stop::Lexing);
@@ -122,20 +124,20 @@ fn events(script: &str) -> Vec<Event> {
     assert!(errors.next().is_none(), "every error has its place");
     for token in tokens {
         assert_eq!(token.lexeme, "", "only empty tokens stand at the end");
-        events.push(event(token, source, at..at));
+        events.push(event(token, source, at..at, counter));
     }
     events
 }
 
-/// A token that stands for these bytes of the source.
-fn event(token: &TokenData, source: &[u8], place: Range<usize>) -> Event {
+/// A token that stands for these bytes of the source, and the line counter when they were met.
+fn event(token: &TokenData, source: &[u8], place: Range<usize>, begins: u32) -> Event {
     let (start, length) = (place.start as u32, place.len() as u32);
-    let words = [token.token as u32, start, length, token.line as u32];
-    Event::Token(record(token, &source[place]), words)
+    let words = [token.token as u32, start, length, token.line as u32, begins];
+    Event::Token(record(token, &source[place], begins), words)
 }
 
-/// Kind, start, length and line of each token of a text.
-pub fn token_words(script: &str) -> Vec<[u32; SHOWN]> {
+/// The words of each token of a text that an outline has.
+pub fn token_words(script: &str) -> Vec<[u32; SHOWN.len()]> {
     let words = |event| match event {
         Event::Token(_, words) => Some(words),
         _ => None,
@@ -149,7 +151,7 @@ fn message(error: &InterpreterError) -> u32 {
 }
 
 /// The fields of a token that stands for these bytes.
-fn record(token: &TokenData, bytes: &[u8]) -> String {
+fn record(token: &TokenData, bytes: &[u8], begins: u32) -> String {
     let value = match &token.literal {
         None => format!("{} 0", sort::NONE),
         Some(Literal::String(text)) => format!("{} {}", sort::TEXT, hex(text.as_bytes())),
@@ -161,5 +163,5 @@ fn record(token: &TokenData, bytes: &[u8]) -> String {
         Some(other) => panic!("lexing gives no {other:?}"),
     };
     let (kind, line) = (token.token as u32, token.line);
-    format!("t {kind} {} {line} {value}", hex(bytes))
+    format!("t {kind} {} {line} {begins} {value}", hex(bytes))
 }

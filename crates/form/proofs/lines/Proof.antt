@@ -1,8 +1,7 @@
 -- `form::lines` meets its contract. Assumes nothing.
 use mathlib.Core.Path.{_≡_, refl, _∙_}
 use mathlib.Core.List.{List, _++_}
-use Prim.Native.Nat.{ℕ, _-_, _*_, _≤_}
-use native.Mathlib.Nat.{mul-le-mul}
+use Prim.Native.Nat.{ℕ, _-_, _≤_}
 use native.Mathlib.Omega.{arith}
 use lib.ListN.{length}
 use Rattle.form.specs.Text.{Holds, linesOf}
@@ -19,21 +18,14 @@ abbrev μ-loop : tie.MeasureT-loop
 
 loop-holds : tie.Need-loop-holds Inv-loop μ-loop
 loop-holds c =
-    let a = c .before .before .args in
-    (omega arith, refl, λ T B h. lines-start B T (a .table .now) _ (a .letter) (a .width) (a .shown) _ h)
+    let a = c .before .before .before .args in
+    (omega arith, refl, λ T B h. lines-start B T (a .table .now) _ (a .letter) (a .width) (a .shown .now) _ h)
 
 place-requires : tie.Need-place-requires Inv-loop μ-loop
-place-requires c κs = c .before .before .before .before .before .pre .0
+place-requires c κs = search needs
 
 line-requires : tie.Need-line-requires Inv-loop μ-loop
-line-requires c κs =
-    let p = c .before .before .before .before .before .before .pre in
-    let a = c .before .before .before .before .before .before .args in
-    let l = c .before .before .before .loop in
-    let h : l .i ≤ 4294967295 = omega arith in
-    let m : a .width * l .i ≤ 9 * 4294967295 = mul-le-mul (p .0) h in
-    let e = c .place .ensures in
-    omega arith
+line-requires c κs = search needs
 
 add-i : tie.Need-add-i Inv-loop μ-loop
 add-i c = search needs
@@ -43,11 +35,12 @@ loop-less c = search needs
 
 loop-again : tie.Need-loop-again Inv-loop μ-loop
 loop-again c =
-    let a = c .before .before .before .before .before .before .before .before .before .args in
-    let l = c .before .before .before .before .before .before .loop in (
+    let a = c .before .before .before .before .before .before .before .before .before .before .args in
+    let l = c .before .before .before .before .before .before .loop in
+    let r = c .before .before .line in (
       omega arith,
-      c .before .before .line .kept .0 ∙ l .inv .1,
-      λ T B h. lines-more B T (a .table .now) _ (a .letter) (a .width) (a .shown) _ (l .i) _ (c .before .before .before .place .ensures) (c .before .before .line .ensures _ B (l .inv .2 T B h)),
+      r .kept .0 ∙ l .inv .1,
+      λ T B h. lines-more B T (a .table .now) _ (a .letter) (a .width) (a .shown .now) _ (l .i) _ (c .before .before .before .place .ensures) (r .ensures _ B (l .inv .2 T B h)),
     )
 
 same-length : tie.Need-same-length Inv-loop μ-loop
@@ -55,9 +48,9 @@ same-length c = search needs
 
 returns : tie.Need-returns Inv-loop μ-loop
 returns c T B h =
-    let a = c .before .before .before .before .args in
+    let a = c .before .before .before .before .before .args in
     let l = c .before .loop in
-    lines-all B T (a .table .now) _ (a .letter) (a .width) (a .shown) _ (l .i) (a .count) (omega arith) (l .inv .2 T B h)
+    lines-all B T (a .table .now) _ (a .letter) (a .width) (a .shown .now) _ (l .i) (a .count) (omega arith) (l .inv .2 T B h)
 
 pub lines-spec : {M : Type 1} → statement M
 lines-spec =
