@@ -791,13 +791,13 @@ fn outlines_of_the_examples() {
 #[test]
 fn outlines_of_several_files() {
     let folder = Folder::with(&[("a.gr", b"a = 1\n"), ("b.gr", b""), ("c.gr", b"\xff")]);
-    let worked = "o 0 5 0 4 4\nt 25 0 1 1\nt 19 2 1 1\nt 27 4 1 1\nt 1 5 1 2\nt 0 6 0 2\n\
+    let worked = "o 0 5 0 4 4\nt 25 0 1 1 1\nt 19 2 1 1 1\nt 27 4 1 1 1\nt 1 5 1 2 1\nt 0 6 0 2 2\n\
                   n 2 1 0 0 0 0 0 0 0\nn 13 3 0 0 0 0 0 0 0\nn 5 1 0 0 2 0 0 0 0\nn 30 3 0 0 3 0 0 0 0\n";
     folder
         .run(&["read", "--outline", "a.gr", "b.gr", "x", "c.gr"])
         .is(
             2,
-            &format!("f a.gr\n{worked}f b.gr\no 0 1 0 0 0\nt 0 0 0 1\nf c.gr\no 3 0 0 0 0\n"),
+            &format!("f a.gr\n{worked}f b.gr\no 0 1 0 0 0\nt 0 0 0 1 1\nf c.gr\no 3 0 0 0 0\n"),
             "kettleplume: x: there is no such file\n",
         );
     folder.run(&["read", "a.gr", "--outline"]).is(0, worked, "");
@@ -823,7 +823,7 @@ fn outlines_of_the_proved_program() {
             equal += 1;
         }
     }
-    assert_eq!((equal, scripts.len()), (13, 18));
+    assert_eq!((equal, scripts.len()), (16, 21));
 }
 
 /// What the program `outline` prints, by its rooms, or nothing where one of them is too small.

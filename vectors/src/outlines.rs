@@ -67,7 +67,7 @@ pub struct Ending {
 }
 
 /// The first scripts of the program `outcomes`, in the order in which it prints them: each outcome
-/// of document 01 under the rooms of `outline`, both ways to 6.
+/// of document 01 under the rooms of `outline`, both ways to 6, and what an outline says of lines.
 pub fn endings() -> Vec<Ending> {
     let known = |text: &str| Ending {
         script: text.as_bytes().to_vec(),
@@ -105,6 +105,10 @@ pub fn endings() -> Vec<Ending> {
             ")".repeat(126),
             "s".repeat(3841)
         )),
+        // Where tokens begin: a string of several lines, newlines of the source and an added one, EOF alone.
+        known("\"x\ny\nz\"\n"),
+        known("a\n\nb"),
+        known(""),
     ]
 }
 

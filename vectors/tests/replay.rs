@@ -26,7 +26,7 @@ fn lexing_vectors_have_everything() {
             match *field {
                 "t" => {
                     kinds.insert(number(at + 1));
-                    sorts.insert(number(at + 4));
+                    sorts.insert(number(at + 5));
                 }
                 "e" => {
                     messages.insert(number(at + 1));

@@ -9,7 +9,7 @@ use lib.Dec.{eqb}
 use borrow.Author.Tests.{eqb-true, eqb-false}
 use lib.ListN.{length, getD, set, length-set}
 use lib.Seq.{getD-set-same, getD-set-other}
-use Rattle.records.specs.Table.{room, put, field, linked, nodeWidth}
+use Rattle.records.specs.Table.{room, put, field, linked, tokenWidth, nodeWidth}
 use Rattle.records.specs.Words.{nodeWords}
 use Rattle.records.specs.declared.Node as rows
 use Rattle.records.proofs.Room.{lt-or-le, room-fits, room-length}
@@ -97,7 +97,7 @@ check-le T i kind h = go (eqb kind 1) refl
 
 past-end : (T : List ℕ) (i : ℕ) → count T ≤ i → kindAt T i ≡ 0
 unfolding kindAt
-past-end T i g = field-none 7 0 T i g
+past-end T i g = field-none tokenWidth 0 T i g
 
 after-le : (T : List ℕ) (kind i : ℕ) → i ≤ count T → kindAt T i ≡ kind → Token T kind (after T i)
 unfolding after
