@@ -29,10 +29,11 @@ pub fn show(host: &mut Host, source: &[u8]) -> Result<String, String> {
             sort::LONG => ", long number".to_string(),
             _ => String::new(),
         };
-        let _ = writeln!(
-            out,
-            "token {kind} {lexeme:?}, line {line}, begins in {begins}{value}"
-        );
+        let lines = match begins == line {
+            true => format!("line {line}"),
+            false => format!("lines {begins} to {line}"),
+        };
+        let _ = writeln!(out, "token {kind} {lexeme:?}, {lines}{value}");
     }
     for [message, line, pos] in errors {
         let text = oracle::MESSAGES[*message as usize - 1];

@@ -48,13 +48,15 @@ fn what_may_be_blacked_out_is_lexed_alike() {
 
 #[test]
 fn one_script_shown() {
-    let text = show(&mut Host::start(), b"a = \"\\t\" !").expect("an answer");
-    let expected = r#"outcome 0, 5 tokens, 1 errors
+    let text = show(&mut Host::start(), b"a = \"\\t\" !\n\"b\nc\"").expect("an answer");
+    let expected = r#"outcome 0, 7 tokens, 1 errors
 token 25 "a", line 1
 token 19 "=", line 1
 token 26 "\"\\t\"", line 1, text "\t"
-token 1 "", line 1
-token 0 "", line 1
+token 1 "\n", lines 1 to 2
+token 26 "\"b\nc\"", lines 2 to 3, text "b\nc"
+token 1 "", line 3
+token 0 "", line 3
 error 1, line 1, pos 9: '!' cannot be used here
 "#;
     assert_eq!(text, expected);

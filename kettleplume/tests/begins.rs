@@ -46,7 +46,9 @@ fn a_script_has_it_beside_its_tokens() {
         let script = kettleplume::read(script);
         let lines = script.tokens.iter().map(|token| token.line);
         let shown: Vec<[i32; 2]> = lines.zip(&script.begins).map(|(l, b)| [l, *b]).collect();
-        let expected = tokens.iter().map(|[.., line, begins]| [*line as i32, *begins as i32]);
+        let expected = tokens
+            .iter()
+            .map(|[.., line, begins]| [*line as i32, *begins as i32]);
         assert_eq!(shown, expected.collect::<Vec<_>>());
         assert_eq!(script.clone().into_parts().begins, script.begins);
     }

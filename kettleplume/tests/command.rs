@@ -607,7 +607,7 @@ fn standard_input() {
     let out = "standard input:1:3: Expected new line\n     1 | a b\n       |   ^\n\
                standard input: read, 2 statements, 1 error\n";
     ran.is(1, out, "");
-    run_with_input(&["read", "--outline", "--", "-"], b"").is(0, "o 0 1 0 0 0\nt 0 0 0 1\n", "");
+    run_with_input(&["read", "--outline", "--", "-"], b"").is(0, "o 0 1 0 0 0\nt 0 0 0 1 1\n", "");
 }
 
 const USAGE: &str =

@@ -4,7 +4,7 @@
 //! BEGINS SORT VALUE` with the bytes that it stands for; for each error that is kept, `e MESSAGE LINE
 //! POS`; and `u 0`: no word behind the kept records has changed.
 
-pub(crate) mod judge;
+pub mod judge;
 mod scripts;
 
 use crate::sheet::{hex, Sheet};

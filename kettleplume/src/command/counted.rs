@@ -30,7 +30,11 @@ pub fn of_lines(
     let mut notes = vec![];
     if further > 0 {
         let last = first + further;
-        let which = if counted { ", with which it is recorded" } else { "" };
+        let which = if counted {
+            ", with which it is recorded"
+        } else {
+            ""
+        };
         notes.push(format!(
             "the string begins in line {first} and ends in line {last}{which}"
         ));

@@ -165,33 +165,3 @@ fn record(token: &TokenData, bytes: &[u8], begins: u32) -> String {
     let (kind, line) = (token.token as u32, token.line);
     format!("t {kind} {} {line} {begins} {value}", hex(bytes))
 }
-
-#[cfg(test)]
-mod tests {
-    use super::token_words;
-    use crate::lexing::scripts::{fixed, PIECES};
-    use expected::dice::Dice;
-    use expected::lexing::Lexing;
-    use expected::records::token::{shown, BEGINS, LINE};
-
-    /// Where a token begins is found in two ways: here as the line of the token or error before it, in
-    /// `expected` as its own line less the new lines in it.
-    #[test]
-    fn where_tokens_begin() {
-        let mut dice = Dice::new(7);
-        let random = (0..4000).map(|_| dice.string(&PIECES, 14));
-        let (mut tokens, mut strings) = (0, 0);
-        for source in fixed().into_iter().chain(random) {
-            let Ok(script) = std::str::from_utf8(&source) else {
-                continue;
-            };
-            let (lexing, _) = Lexing::of(script);
-            let theirs: Vec<_> = lexing.tokens.iter().map(shown).collect();
-            assert_eq!(token_words(script), theirs, "{script:?}");
-            tokens += lexing.tokens.len();
-            let several = |t: &&_| -> bool { t[0] == 26 && t[LINE] > t[BEGINS] };
-            strings += lexing.tokens.iter().filter(several).count();
-        }
-        assert!(tokens > 10_000 && strings > 100, "{tokens} {strings}");
-    }
-}
