@@ -31,9 +31,10 @@ A FILE that is - is standard input. After -- every word is a FILE.
 
   --outline  prints instead what a reading keeps, in document 01's form: a line o
              for the answer, then a line t for each token, e for each error and
-             n for each node. Of several files, each begins with a line f and its
-             name. A script for which the program outline has no room, up to
-             65,535 bytes, is printed in full.
+             n for each node. The fifth number of a token is the line where it
+             begins. Of several files, each begins with a line f and its name. A
+             script for which the program outline has no room, up to 65,535 bytes,
+             is printed in full.
   --help     prints this
   --version  prints the version
 
