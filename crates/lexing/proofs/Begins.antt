@@ -5,8 +5,8 @@ use mathlib.Core.List.{List, [], _∷_, _++_}
 use mathlib.Core.Logic.{⊎-elim}
 use Prim.Native.Nat.{ℕ, zero, suc, _+_, _*_, _≤_, _<_}
 use native.Mathlib.Omega.{arith}
-use borrow.Author.Tests.{ne-eqb, eqb-true, not-true}
-use lib.Dec.{T, eqb, ltb, T-not, eqb-refl}
+use borrow.Author.Tests.{ne-eqb}
+use lib.Dec.{T, eqb, ltb, T-not}
 use lib.Ieee.Fits.{and-l, and-r}
 use lib.ListN.{length, getD, take, drop, length-append, List·getD-append}
 use lib.Seq.{take-add, drop-drop, getD-append-add}
@@ -35,7 +35,7 @@ use Rattle.items.specs.declared.Item.{Item}
 use Rattle.items.specs.declared.Item.the-variants.{Space, Comment, Name, Text, Number, Mark, Wrong}
 use Rattle.items.specs.Items.{Row, find, pickSign, signs, signOf, letter, digit, sign, pickClass, pickItem, textItem, lone, pairAt, itemAs, itemOf, sizeOf, less, items}
 use Rattle.items.proofs.Bounds.{item-bounded}
-use Rattle.lexer.specs.Lex.{State, Result, Onward, go, stop, pickOnward, kept, andThen, passed, noValue, tokenAt, withToken, withError, spanOf, token, error, step, closing, finish, emit, fresh, refusal, lexed, lexedOf}
+use Rattle.lexer.specs.Lex.{State, Result, Onward, go, stop, pickOnward, kept, andThen, noValue, tokenAt, withToken, withError, spanOf, token, step, closing, finish, emit, fresh, lexed, lexedOf}
 use Rattle.lexing.specs.Kept.{InOrder, first, behind}
 use Rattle.lexing.specs.Begins.{newlines, Begins, beginsAt, Begun}
 use Rattle.lexing.proofs.Kept.{less-suc, lexed-keeps}

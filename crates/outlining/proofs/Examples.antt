@@ -1,8 +1,7 @@
 -- Worked examples of the form, by computation. Assumes nothing.
 use mathlib.Core.Path.{_≡_, refl}
-use mathlib.Core.List.{List, [], _∷_}
+use mathlib.Core.List.{[], _∷_}
 use Rattle.records.specs.Table.{tokenWidth}
-use Rattle.entry.specs.Reading.{Reading}
 use Rattle.text.proofs.Codes.{codes}
 use Rattle.form.specs.Text.{decimal, fields, linesOf, tokenShown, textOf}
 

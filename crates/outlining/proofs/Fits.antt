@@ -3,14 +3,13 @@ use mathlib.Core.Path.{_≡_, refl, sym, ap, subst, _∙_}
 use mathlib.Core.Bool.{Bool, true, false, cond}
 use mathlib.Core.List.{List, [], _∷_, _++_}
 use Prim.Native.Nat.{ℕ, zero, suc, _+_, _*_, _/_, _%_, _≤_, min}
-use native.Mathlib.Nat.{mul-le-mul, mul-zero, mul-suc}
+use native.Mathlib.Nat.{mul-suc}
 use native.Mathlib.Omega.{arith}
 use lib.Dec.{ltb}
 use lib.ListN.{length, getD, take, drop, replicate, length-append, length-replicate}
 use lib.Seq.{take-all}
 use Rattle.records.specs.Table.{room, tokenWidth, errorWidth, nodeWidth}
 use Rattle.entry.specs.Reading.{Reading}
-use Rattle.whole.specs.Sizes.{Within}
 use Rattle.whole.proofs.Rooms.{reading-rooms}
 use Rattle.form.specs.Text.{Holds, digitsWithin, decimal, field, fields, lineOf, linesOf, headOf, tokenShown, errorShown, nodeShown, textOf, readWithin, outlineOf}
 

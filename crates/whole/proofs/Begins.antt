@@ -1,8 +1,8 @@
 -- Every token that a reading keeps begins where its bytes say, and none on an earlier line than one before it. Assumes nothing.
-use mathlib.Core.Path.{_≡_, refl, sym, ap, subst, _∙_}
+use mathlib.Core.Path.{_≡_, refl, ap, subst, _∙_}
 use mathlib.Core.Bool.{Bool, true, false}
 use mathlib.Core.List.{List}
-use Prim.Native.Nat.{ℕ, _+_, _*_, _≤_, _<_}
+use Prim.Native.Nat.{ℕ, _+_, _*_, _<_}
 use native.Mathlib.Omega.{arith}
 use lib.Dec.{eqb}
 use lib.ListN.{length, getD}
@@ -16,8 +16,8 @@ use Rattle.lexing.proofs.Answer.{tokens-within}
 use Rattle.lexing.proofs.Begins.{lexing-begins}
 use Rattle.parser.specs.Whole.{parsed}
 use Rattle.entry.specs.Entry.{over, nodesAfter, enteredAfter}
-use Rattle.entry.specs.Reading.{Reading, refused, joined, pickReading, readAfter, reading}
-use Rattle.whole.specs.Begins.{TokenBegins, TokensBegin}
+use Rattle.entry.specs.Reading.{Reading, refused, joined, pickReading, reading}
+use Rattle.whole.specs.Begins.{TokensBegin}
 use Rattle.whole.proofs.Rooms.{lexed-rooms}
 use Rattle.whole.proofs.Sizes.{over-keeps}
 use Rattle.whole.proofs.Places.{front-word}
