@@ -1,3 +1,4 @@
+pub mod Told
 pub mod Kept
 pub mod Answer
 pub mod Begins

@@ -2,6 +2,7 @@
 use Prim.Native.Nat.{ℕ, _+_, _≤_, _<_}
 use mathlib.Core.Path.{_≡_}
 use mathlib.Core.List.{List, [], _++_}
+use lib.ListN.{length}
 use Rattle.token.specs.Kind as kinds
 use Rattle.records.specs.declared.TokenData.{TokenData}
 use Rattle.records.specs.declared.InterpreterError.{InterpreterError}
@@ -10,6 +11,7 @@ use Rattle.records.specs.Rows.{Rows}
 use Rattle.records.specs.Messages.{loneBang, unclosedString}
 use Rattle.records.specs.Outcomes.{ended}
 use Rattle.lexer.specs.Lex.{Result}
+use Rattle.lexing.specs.Begins.{Begins}
 
 -- a token of a source of n bytes that is not EOF: its kind, its bytes within the source, its line, and that it begins on this line or an earlier one
 pub record Good (n : ℕ) (d : TokenData) : Type 0 where
@@ -49,10 +51,11 @@ pub data Ending (n : ℕ) (r : Result) : Type 0 where
       → r .tokens ≡ ws ++ tokenWords d → r .tokenCount ≡ m + 1 → Ending n r
   short : (r .outcome ≡ ended → ⊥) → Rows tokenWords (Good n) (r .tokens) (r .tokenCount) → r .tokenCount ≤ n + 1 → Ending n r
 
--- what every lexing of n bytes keeps, with room for so many tokens and errors
-pub record Keeps (n tokenRoom errorRoom : ℕ) (r : Result) : Type 0 where
-  pub ending : Ending n r
+-- what every lexing of a source s keeps, with room for so many tokens and errors
+pub record Keeps (s : List ℕ) (tokenRoom errorRoom : ℕ) (r : Result) : Type 0 where
+  pub ending : Ending (length s) r
+  pub begins : Rows tokenWords (Begins s) (r .tokens) (r .tokenCount)
   pub order : (end : ℕ) × (line : ℕ) × InOrder (r .tokens) (r .tokenCount) end line
-  pub errors : Rows errorWords (Placed n) (r .errors) (r .errorCount)
+  pub errors : Rows errorWords (Placed (length s)) (r .errors) (r .errorCount)
   pub token-room : r .tokenCount ≤ tokenRoom
   pub error-room : r .errorCount ≤ errorRoom

@@ -31,11 +31,11 @@ use Rattle.turns.proofs.Steady as steady
 use Rattle.turns.proofs.Steady.{Fit, Steady, going, rest-steady, reads-steady, steady-ends}
 
 -- a lexing that reached the end keeps what every lexing keeps
-lexed-whole : (s : List ℕ) (a b : ℕ) → lexedOf s a b .outcome ≡ 0 → Keeps (length s) a b (lexedOf s a b)
+lexed-whole : (s : List ℕ) (a b : ℕ) → lexedOf s a b .outcome ≡ 0 → Keeps s a b (lexedOf s a b)
 unfolding lexedOf
 lexed-whole s a b = at (ltb 65535 (length s)) (isText s)
   where
-    at : (x y : Bool) → let r = pickResult x (refusal 4) (pickResult (not y) (refusal 3) (lexed s a b)) in r .outcome ≡ 0 → Keeps (length s) a b r
+    at : (x y : Bool) → let r = pickResult x (refusal 4) (pickResult (not y) (refusal 3) (lexed s a b)) in r .outcome ≡ 0 → Keeps s a b r
     at true y z = absurd (omega (arith, z))
     at false false z = absurd (omega (arith, z))
     at false true z = lexed-keeps s a b
