@@ -4,12 +4,16 @@
  * The library's archive is for x86-64. As a program of its own this file can be run by an emulator
  * where the machine is another one, while the test that asks is built for that machine.
  *
- * A request is five 32-bit words, lowest byte first:
- *   1, length, behind, 0, 0               sets the source; its bytes follow; no answer
- *   2, token words, error words, fill, 0  lexes it
- *   3, buffer bytes, fill, start, start   decodes the string at start (low word, high word)
- *   4, token, error and node words, fill  reads it
- *   5, token, error and node words, fill  reads it one statement at a time, and once more
+ * A request is six 32-bit words, lowest byte first:
+ *   1, length, behind, 0, 0, 0            sets the source; its bytes follow; no answer
+ *   2, token words, error words, fill, 0, 0
+ *                                         lexes it
+ *   3, buffer bytes, fill, start, start, 0
+ *                                         decodes the string at start (low word, high word)
+ *   4, token, error and node words, fill, way
+ *                                         reads it
+ *   5, token, error and node words, fill, way
+ *                                         reads it one statement at a time, and once more
  * An answer is some words and then the tables, or the buffer, as the call left them:
  *   outcome, tokens, errors, intact       after 2; the token words and the error words follow
  *   outcome, length, length, intact       after 3 (low word, high word); the buffer's bytes follow
@@ -17,8 +21,8 @@
  *                                         after 4 and 5; count times four words and the token, error
  *                                         and node words follow
  * Each table lies between guards; intact is 1 if all of them are as they were, else 0. After 5 steady
- * is 1 if the read behind the final answer gave it again and changed nothing, and the count is that of
- * the answers 19: tokens, errors, nodes and first statement of each follow. After 4 they are 1 and 0.
+ * is 1 if the read behind the final answer gave it again and changed nothing, and the parser's way is
+ * the one that was set; the count is that of the answers 19: tokens, errors, nodes and first statement of each follow. After 4 they are 1 and 0.
  *
  * No header is included: the toolchain's compiler comes without those of the C library.
  */
@@ -39,9 +43,10 @@ struct Answer { u32 outcome, tokens, errors, nodes, first; };
 struct Scanned kettleplume_scan(const u8 *source, usize length, u32 *tokens, usize token_words,
                                 u32 *errors, usize error_words);
 struct Decoded kettleplume_decode(const u8 *source, usize length, usize start, u8 *buffer, usize room);
-struct Answer kettleplume_read(const u8 *source, usize length, u32 *tokens, usize token_words,
-                               u32 *errors, usize error_words, u32 *nodes, usize node_words);
-struct Parser { u32 current, loops, tokens, errors, nodes, first, last, ended, outcome; };
+struct Answer kettleplume_read(u32 way, const u8 *source, usize length, u32 *tokens,
+                               usize token_words, u32 *errors, usize error_words, u32 *nodes,
+                               usize node_words);
+struct Parser { u32 way, current, loops, tokens, errors, nodes, first, last, ended, outcome; };
 struct Answer kettleplume_begin(struct Parser *parser, const u8 *source, usize length, u32 *tokens,
                                 usize token_words, u32 *errors, usize error_words, u32 *nodes,
                                 usize node_words);
@@ -166,9 +171,10 @@ static u32 as_kept(usize token_words, usize error_words, usize node_words) {
 }
 
 /* Begins and reads up to the final answer, and once more; no source needs more reads than this. */
-static struct Answer one_at_a_time(usize t, usize e, usize n, u32 *steady, u32 *count) {
+static struct Answer one_at_a_time(u32 way, usize t, usize e, usize n, u32 *steady, u32 *count) {
     static const struct Parser none;
     struct Parser parser = none;
+    parser.way = way;
     struct Answer r = kettleplume_begin(&parser, source, source_length, tokens + GUARD, t,
                                         errors + GUARD, e, nodes + GUARD, n);
     for (*count = 0; r.outcome == MORE && *count < source_length + 3; ++*count) {
@@ -181,21 +187,23 @@ static struct Answer one_at_a_time(usize t, usize e, usize n, u32 *steady, u32 *
     struct Parser before = parser;
     struct Answer again = kettleplume_next(&parser, source, source_length, tokens + GUARD, t,
                                            errors + GUARD, e, nodes + GUARD, n);
-    *steady = as_kept(t, e, n) &
+    *steady = as_kept(t, e, n) & (parser.way == way) &
               same_words((u32 *)&again, (u32 *)&r, sizeof r / sizeof(u32)) &
               same_words((u32 *)&before, (u32 *)&parser, sizeof parser / sizeof(u32));
     return r;
 }
 
-static void read_into(u32 pair, usize token_words, usize error_words, usize node_words, u32 fill) {
+static void read_into(u32 pair, usize token_words, usize error_words, usize node_words, u32 fill,
+                      u32 way) {
     if (token_words > TOKEN_TABLE || error_words > ERROR_TABLE || node_words > NODE_TABLE) exit(2);
     lay(tokens, token_words, fill);
     lay(errors, error_words, fill);
     lay(nodes, node_words, fill);
     u32 steady = 1, count = 0;
-    struct Answer r = pair ? one_at_a_time(token_words, error_words, node_words, &steady, &count)
-                           : kettleplume_read(source, source_length, tokens + GUARD, token_words,
-                                              errors + GUARD, error_words, nodes + GUARD, node_words);
+    struct Answer r =
+        pair ? one_at_a_time(way, token_words, error_words, node_words, &steady, &count)
+             : kettleplume_read(way, source, source_length, tokens + GUARD, token_words,
+                                errors + GUARD, error_words, nodes + GUARD, node_words);
     u32 whole = intact(tokens, token_words) & intact(errors, error_words) & intact(nodes, node_words);
     u32 answer[8] = {r.outcome, r.tokens, r.errors, r.nodes, r.first, whole, steady, count};
     put(answer, sizeof answer);
@@ -220,14 +228,14 @@ static void decode(usize room, u8 fill, usize start) {
 
 int main(void) {
     for (;;) {
-        u32 q[5];
+        u32 q[6];
         get(q, sizeof q);
         switch (q[0]) {
         case 1: set_source(q[1], (u8)q[2]); break;
         case 2: lex(q[1], q[2], q[3]); break;
         case 3: decode(q[1], (u8)q[2], (usize)q[4] << 32 | q[3]); break;
-        case 4: read_into(0, q[1], q[2], q[3], q[4]); break;
-        case 5: read_into(1, q[1], q[2], q[3], q[4]); break;
+        case 4: read_into(0, q[1], q[2], q[3], q[4], q[5]); break;
+        case 5: read_into(1, q[1], q[2], q[3], q[4], q[5]); break;
         default: return 2;
         }
     }

@@ -11,7 +11,7 @@ use std::fmt::{self, Write as _};
 use crate::host::{Answer, Host, ReadAnswer, ReadCall, Request};
 use expected::lexing::is_text;
 use expected::mixed_dice::Dice;
-use expected::records::{ERROR_WORDS, NODE_WORDS, TOKEN_WORDS};
+use expected::records::{way, ERROR_WORDS, NODE_WORDS, TOKEN_WORDS};
 use vectors::blackout::change::{any_first, broken, changed, exchanged};
 use vectors::blackout::premise::{permitted, Clause, CLAUSES};
 use vectors::blackout::tables::Tables;
@@ -148,8 +148,8 @@ impl Report {
         Ok(())
     }
 
-    /// The library reads both scripts of each pair into equally large tables, often too small,
-    /// that held something else before.
+    /// The library reads both scripts of each pair, on both ways, into equally large tables, often too
+    /// small, that held something else before.
     fn library(
         &mut self,
         host: &mut Option<&mut Host>,
@@ -177,16 +177,20 @@ impl Report {
             let error_words = ERROR_WORDS * errors + dice.below(ERROR_WORDS);
             let node_words = NODE_WORDS * nodes + dice.below(NODE_WORDS);
             for bytes in pair {
-                let (behind, fill) = (dice.word() as u8, dice.word() as u32);
+                let behind = dice.word() as u8;
                 requests.push(Request::Source { bytes, behind });
-                requests.push(Request::Read(ReadCall {
-                    pair: false,
-                    token_words,
-                    error_words,
-                    node_words,
-                    fill,
-                }));
-                fills.push(fill);
+                for way in [way::STOP, way::GO_ON] {
+                    let fill = dice.word() as u32;
+                    requests.push(Request::Read(ReadCall {
+                        way,
+                        pair: false,
+                        token_words,
+                        error_words,
+                        node_words,
+                        fill,
+                    }));
+                    fills.push(fill);
+                }
             }
         }
         let mut readings = vec![];
@@ -195,21 +199,27 @@ impl Report {
                 readings.push(tables(&reading, fills[readings.len()]));
             }
         })?;
-        for ([first, second], reading) in batch.iter().zip(readings.chunks_exact(2)) {
-            match reading {
-                [Ok(a), Ok(b)] if a == b => *self.library.entry(a.answer[0]).or_default() += 1,
-                [Ok(_), Ok(_)] => {
-                    return Err(told(
-                        "the library reads a permitted pair differently",
-                        first,
-                        second,
-                    ))
-                }
-                [Err(what), _] | [_, Err(what)] => return Err(told(what, first, second)),
-                _ => return Err("an answer is missing".to_string()),
+        let (pairs, _) = readings.as_chunks::<4>();
+        if pairs.len() != batch.len() {
+            return Err("an answer is missing".to_string());
+        }
+        for ([first, second], [a, b, c, d]) in batch.iter().zip(pairs) {
+            // The same way for both.
+            for reading in [[a, c], [b, d]] {
+                let outcome = alike(reading).map_err(|what| told(&what, first, second))?;
+                *self.library.entry(outcome).or_default() += 1;
             }
         }
         Ok(())
+    }
+}
+
+/// The outcome of two readings that are the same, or what is wrong.
+fn alike(readings: [&Result<Tables, String>; 2]) -> Result<u32, String> {
+    match readings {
+        [Ok(a), Ok(b)] if a == b => Ok(a.answer[0]),
+        [Ok(_), Ok(_)] => Err("the library reads a permitted pair differently".to_string()),
+        [Err(what), _] | [_, Err(what)] => Err(what.clone()),
     }
 }
 

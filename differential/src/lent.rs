@@ -42,9 +42,12 @@ pub struct Lent {
 
 impl Lent {
     /// What begin and so many reads leave.
-    pub fn begun(source: &[u8], rooms: [usize; 3], fill: u32, reads: usize) -> Lent {
+    pub fn begun(way: u32, source: &[u8], rooms: [usize; 3], fill: u32, reads: usize) -> Lent {
         let mut lent = Lent {
-            parser: Parser::default(),
+            parser: Parser {
+                way,
+                ..Parser::default()
+            },
             source: source.to_vec(),
             tokens: vec![fill; rooms[0]],
             errors: vec![fill; rooms[1]],
@@ -106,7 +109,7 @@ impl Lent {
         let words = [self.tokens.len(), self.errors.len(), self.nodes.len()];
         let count = self.parser.tokens;
         let p = &mut self.parser;
-        let field = match dice.below(9) {
+        let field = match dice.below(10) {
             0 => &mut p.current,
             1 => &mut p.loops,
             2 => &mut p.tokens,
@@ -115,6 +118,7 @@ impl Lent {
             5 => &mut p.first,
             6 => &mut p.last,
             7 => &mut p.ended,
+            8 => &mut p.way,
             _ => &mut p.outcome,
         };
         *field = match dice.below(7) {
@@ -172,7 +176,8 @@ pub fn damaged(count: usize, seed: u64) -> Result<Counts, String> {
             NODE_WORDS * dice.below(2 * length + 3),
         ];
         let rooms = rooms.map(|words| words + dice.below(NODE_WORDS));
-        let mut lent = Lent::begun(&source, rooms, dice.word() as u32, dice.below(4));
+        let (way, fill) = (dice.below(3) as u32, dice.word() as u32);
+        let mut lent = Lent::begun(way, &source, rooms, fill, dice.below(4));
         for _ in 0..=dice.below(3) {
             if dice.one_in(2) {
                 lent.damage_parser(&mut dice);
@@ -236,7 +241,10 @@ fn kept(before: &Lent, after: &Lent) -> Option<&'static str> {
     // The statement before is linked to the new one, wherever the parser said that it was.
     let same_nodes = after.nodes[..nodes.min(new_nodes)] == linked[..nodes.min(new_nodes)]
         || (p.last > p.nodes && q.ended == 0);
-    if after.tokens != before.tokens || after.source != before.source || p.tokens != q.tokens {
+    if p.way != q.way {
+        Some("the way")
+    } else if after.tokens != before.tokens || after.source != before.source || p.tokens != q.tokens
+    {
         Some("the tokens")
     } else if q.errors < p.errors
         || after.errors[..errors] != before.errors[..errors]

@@ -8,7 +8,7 @@ use std::time::Instant;
 use crate::compare::{run, Call, Difference, Trial};
 use crate::host::{Host, ReadCall};
 use crate::whole::Wanted;
-use expected::records::{error, node};
+use expected::records::{error, node, way};
 
 /// How often a smaller script is tried: some that differ by their length alone can't get smaller.
 const TRIES: usize = 2_000;
@@ -44,10 +44,11 @@ impl Group {
             let name = match call {
                 Call::Lex(_, lexing) => format!("lex {}", lexing.outcome),
                 Call::Decode(_, decoding) => format!("decode {}", decoding.outcome),
-                Call::Read(ReadCall { pair: true, .. }, wanted) => {
-                    format!("pair {}", wanted.outcome())
+                Call::Read(ReadCall { way, pair, .. }, wanted) => {
+                    let new = if *way == way::STOP { "new " } else { "" };
+                    let what = if *pair { "pair" } else { "read" };
+                    format!("{new}{what} {}", wanted.outcome())
                 }
-                Call::Read(_, wanted) => format!("read {}", wanted.outcome()),
             };
             *self.calls.entry(name).or_default() += 1;
             if let Call::Read(_, Wanted::Exact(answer, _)) = call {

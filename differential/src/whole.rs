@@ -3,7 +3,7 @@
 use std::fmt::Write as _;
 use std::rc::Rc;
 
-use expected::records::{Error, Node, Token, ERROR_WORDS, NODE_WORDS, TOKEN_WORDS, WIDTHS};
+use expected::records::{way, Error, Node, Token, ERROR_WORDS, NODE_WORDS, TOKEN_WORDS, WIDTHS};
 use expected::whole::{known, Answer, Known, Whole};
 use kettleplume::Rooms;
 
@@ -86,9 +86,17 @@ impl Tried {
         self.read_with(rooms, tails);
     }
 
-    /// The same with these spare tails, in words.
+    /// The same with these spare tails, in words, on both ways. Every number but 0 is the old way.
     pub fn read_with(&mut self, rooms: [usize; 3], tails: [usize; 3]) {
+        let old = [way::GO_ON, 2, u32::MAX, self.dice.word() as u32 | 1 << 31][self.dice.below(4)];
+        for way in [old, way::STOP] {
+            self.read_on(way, rooms, tails);
+        }
+    }
+
+    fn read_on(&mut self, way: u32, rooms: [usize; 3], tails: [usize; 3]) {
         let call = ReadCall {
+            way,
             pair: false,
             token_words: TOKEN_WORDS * rooms[0] + tails[0],
             error_words: ERROR_WORDS * rooms[1] + tails[1],
@@ -96,7 +104,7 @@ impl Tried {
             fill: self.dice.word() as u32,
         };
         let wanted = match &self.known {
-            Kept::Read(whole) => Wanted::Exact(whole.within(rooms), Some(whole.clone())),
+            Kept::Read(whole) => Wanted::Exact(whole.on(way, rooms), Some(whole.clone())),
             Kept::Refused(outcome) => Wanted::Refused(*outcome),
             Kept::Told(answer) => Wanted::Exact(answer.clone(), None),
         };
@@ -173,7 +181,7 @@ fn exact_differs(
     if let Some((name, ..)) = counts.iter().find(|(_, got, want)| got != want) {
         return Some(name.to_string());
     }
-    if let Some(what) = way_differs(call, expected, answer) {
+    if let Some(what) = before_differs(call, expected, answer) {
         return Some(what);
     }
     // The trees first: they owe nothing to the numbering that the words have in common.
@@ -192,8 +200,8 @@ fn exact_differs(
     )
 }
 
-/// What is answered on the way of a reading one statement at a time.
-fn way_differs(call: &ReadCall, expected: &Answer, answer: &ReadAnswer) -> Option<String> {
+/// What is answered before the final answer of a reading one statement at a time.
+fn before_differs(call: &ReadCall, expected: &Answer, answer: &ReadAnswer) -> Option<String> {
     let first = expected.first;
     let so_far = expected.so_far.iter().map(|&[errors, nodes]| {
         let first = if nodes == 0 { 0 } else { first };

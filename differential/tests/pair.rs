@@ -3,7 +3,7 @@
 
 use differential::lent::{damaged, Lent, KINDS, READ};
 use expected::records::outcome::{DONE, MISMATCH, MORE, STOPPED};
-use expected::records::{message, ERROR_WORDS, TOKEN_WORDS, WIDTHS};
+use expected::records::{message, way, ERROR_WORDS, TOKEN_WORDS, WIDTHS};
 use kettleplume::border::{Answer, Parser};
 
 #[test]
@@ -20,7 +20,7 @@ fn any_parser_and_any_tables_get_an_answer() {
 /// What begin leaves of a source in tables with these rooms.
 fn begun(source: &[u8], rooms: [usize; 3]) -> Lent {
     let words = [0, 1, 2].map(|table| WIDTHS[table] * rooms[table]);
-    Lent::begun(source, words, 7, 0)
+    Lent::begun(way::GO_ON, source, words, 7, 0)
 }
 
 /// A parser that nothing was begun with.
@@ -52,12 +52,13 @@ fn each_condition_is_asked() {
         |l| l.tokens[TOKEN_WORDS * 2] = 0,
         |l| l.tokens.truncate(TOKEN_WORDS * 5 - 1),
     ];
-    let read: [Change; 5] = [
+    let read: [Change; 6] = [
         |l| l.parser.errors = 1,
         |l| l.parser.last = 4,
         |l| l.parser.loops = 5,
         |l| l.parser.first = u32::MAX,
         |l| l.parser.outcome = 77,
+        |l| l.parser.way = 0,
     ];
     for (changes, outcome) in [(&refused[..], MISMATCH), (&read[..], DONE)] {
         for (index, change) in changes.iter().enumerate() {

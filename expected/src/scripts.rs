@@ -223,6 +223,34 @@ pub const SMALL: &[(&str, u32, [usize; 3], [usize; 3])] = &[
     ("#\u{ed}\u{a0}\u{80}\n", 3, [3, 3, 3], [0, 0, 0]),
 ];
 
+/// Scripts whose lexing records errors, and some whose lexing doesn't, or ends before its end: what the
+/// two ways of a reading make of them.
+pub const MISLEXED: &[&str] = &[
+    "a \"b\n",
+    "\"\\q\"",
+    "a $ b )\n",
+    "a = 1\n",
+    "!",
+    "",
+    "@ 1.5",
+    "a b\n!",
+    "let stop = \"Salicional\nlet pitch = 8\n",
+];
+
+/// The same with tables that lexing or parsing find too small: the script, how it ends on the new way and
+/// on the old one, the rooms for tokens, errors and nodes, and how many of the tokens, errors and
+/// statements are kept on each.
+#[allow(clippy::type_complexity)]
+pub const MISLEXED_SMALL: &[(&str, [u32; 2], [usize; 3], [[usize; 3]; 2])] = &[
+    // Lexing finds no room: both ways are the same.
+    ("$ a b", [5, 5], [1, 9, 9], [[1, 1, 0]; 2]),
+    ("a $ $", [6, 6], [9, 1, 9], [[1, 1, 0]; 2]),
+    // Only parsing would find none.
+    ("a $ b", [11, 6], [4, 1, 9], [[4, 1, 0]; 2]),
+    ("a $ b", [11, 7], [4, 2, 0], [[4, 1, 0]; 2]),
+    ("a\n$ b", [11, 7], [5, 1, 2], [[5, 1, 0], [5, 1, 1]]),
+];
+
 /// Ways to open levels, with the most that are read: what opens one, how often, what stands
 /// inside, what closes it.
 pub const WAYS: &[(&str, usize, &str, &str)] = &[

@@ -13,7 +13,7 @@ use oracle::{Reading, Stop};
 use crate::lexing::{self, is_text, rust_string, Error, Lexing, Token, LONGEST};
 use crate::marks;
 use crate::nodes::{Node, Nodes};
-use crate::records::{self, message, node, outcome, token};
+use crate::records::{self, message, node, outcome, token, way};
 use crate::unfold;
 
 /// A script that the original can be given, and all that it makes of it.
@@ -88,8 +88,23 @@ impl Whole {
         Whole { lexing, parsing }
     }
 
-    /// The answer where there is room for so many tokens, errors and nodes: the first event that
-    /// finds no room decides.
+    /// The answer on a way. Where lexing alone comes to its end within the rooms and records an error,
+    /// the new way keeps what it recorded, and no more; else it is the old way.
+    pub fn on(&self, number: u32, rooms: [usize; 3]) -> Answer {
+        let lexing = self.lexing.within(rooms[0], rooms[1]);
+        if number != way::STOP || lexing.outcome != outcome::DONE || lexing.errors.is_empty() {
+            return self.within(rooms);
+        }
+        Answer {
+            outcome: outcome::NOT_PARSED,
+            tokens: lexing.tokens,
+            errors: lexing.errors,
+            ..Answer::default()
+        }
+    }
+
+    /// The answer on the old way, the original's, where there is room for so many tokens, errors and
+    /// nodes: the first event that finds no room decides.
     pub fn within(&self, [token_room, error_room, node_room]: [usize; 3]) -> Answer {
         let lexing = self.lexing.within(token_room, error_room);
         let kept = Answer {

@@ -8,7 +8,7 @@
 #[repr(C)]
 #[derive(Debug, Clone, Copy, PartialEq, Eq, Default)]
 pub struct Answer {
-    /// Document 01's number: 0 to 8, for a read of one statement also 18 and 19.
+    /// Document 01's number: 0 to 8 and 11, for a read of one statement also 18 and 19.
     pub outcome: u32,
     /// How many token records are kept.
     pub tokens: u32,
@@ -42,10 +42,14 @@ pub struct Decoded {
     pub length: usize,
 }
 
-/// What reading one statement at a time keeps between two calls. Any value gets an answer.
+/// What reading one statement at a time keeps between two calls. Any value gets an answer. The caller sets
+/// the way before `begin`; the other words are the calls' own.
 #[repr(C)]
 #[derive(Debug, Clone, Copy, PartialEq, Eq, Default)]
 pub struct Parser {
+    /// The way: 0 stops after a lexing that recorded an error, any other number goes on. `begin` looks at
+    /// it, and no call changes it.
+    pub way: u32,
     /// The index of the token that is looked at next.
     pub current: u32,
     /// How many loops are open.
@@ -67,13 +71,21 @@ pub struct Parser {
 }
 
 /// Reads a source into three tables: what it makes of it, and every word of the tables afterwards, is
-/// fixed by the definition `reading` for any bytes and tables of any size.
+/// fixed by the definition `reading` for any way, any bytes and tables of any size.
 ///
-/// Word counts are the slices' lengths; [`tables`](crate::tables) has how many words a record is.
-pub fn read(source: &[u8], tokens: &mut [u32], errors: &mut [u32], nodes: &mut [u32]) -> Answer {
+/// [`way`](crate::records::way) has the ways' numbers; any number but 0 is the old way. Word counts are
+/// the slices' lengths; [`tables`](crate::tables) has how many words a record is.
+pub fn read(
+    way: u32,
+    source: &[u8],
+    tokens: &mut [u32],
+    errors: &mut [u32],
+    nodes: &mut [u32],
+) -> Answer {
     // Each pointer and its length are one slice's, and the three tables are lent alone.
     unsafe {
         c::kettleplume_read(
+            way,
             source.as_ptr(),
             source.len(),
             tokens.as_mut_ptr(),
@@ -116,8 +128,8 @@ pub fn decode(source: &[u8], start: usize, buffer: &mut [u8]) -> Decoded {
 }
 
 impl Parser {
-    /// Lexes a source, whatever the parser was, and makes ready to read its statements. 19 says that
-    /// there is one to read; any other answer is final.
+    /// Lexes a source, whatever the parser was but for its way, and makes ready to read its statements.
+    /// 19 says that there is one to read; any other answer is final.
     pub fn begin(
         &mut self,
         source: &[u8],
@@ -223,7 +235,7 @@ macro_rules! answering {
 
 answering! {
     kettleplume_read(
-        source: *const u8, length: usize, tokens: *mut u32, token_words: usize,
+        way: u32, source: *const u8, length: usize, tokens: *mut u32, token_words: usize,
         errors: *mut u32, error_words: usize, nodes: *mut u32, node_words: usize
     );
     kettleplume_begin(

@@ -30,6 +30,8 @@ pub enum Error {
     NoString,
     /// 10: the decoded string is longer than its buffer.
     BufferRoom,
+    /// 11: the lexer recorded errors, and so nothing was parsed.
+    NotParsed,
     /// 18: the parser and the tables that were lent don't go together.
     Mismatch,
     /// No number of document 01's: the records are whole, but as trees, which repeat what records
@@ -41,7 +43,7 @@ pub enum Error {
 
 impl Error {
     /// All that have a number, in its order.
-    pub const NUMBERED: [Error; 11] = [
+    pub const NUMBERED: [Error; 12] = [
         Error::Stopped,
         Error::PointAtEnd,
         Error::NoText,
@@ -52,6 +54,7 @@ impl Error {
         Error::TooDeep,
         Error::NoString,
         Error::BufferRoom,
+        Error::NotParsed,
         Error::Mismatch,
     ];
 
@@ -75,6 +78,7 @@ impl Error {
             Error::TooDeep => outcome::TOO_DEEP,
             Error::NoString => outcome::NO_STRING,
             Error::BufferRoom => outcome::BUFFER_ROOM,
+            Error::NotParsed => outcome::NOT_PARSED,
             Error::Mismatch => outcome::MISMATCH,
             Error::TreesTooLarge | Error::OtherTokens => return None,
         })
@@ -97,6 +101,9 @@ impl fmt::Display for Error {
             Error::TooDeep => "the script is nested more than 128 levels deep",
             Error::NoString => "no closed string begins at that place",
             Error::BufferRoom => "the text of the string is longer than the buffer for it",
+            Error::NotParsed => {
+                "the script has mistakes in its words or marks, so its statements were not read"
+            }
             Error::Mismatch => {
                 "the parser and the tables don't go together: nothing was read, and nothing changed"
             }

@@ -29,6 +29,16 @@
 //! [`Script::end`] says whether reading came to the end of the script, and if not why. Who reads many
 //! scripts keeps [`Tables`] for them: [`read_with`].
 //!
+//! An error in the words and marks themselves, as a string that isn't closed, makes the parser record
+//! others that only follow from it. So the statements of such a script are not read, unless that is
+//! asked for: [`read_as`].
+//!
+//! ```
+//! let script = kettleplume::read("let stop = \"Gemshorn\nlet pitch = 8\n");
+//! assert_eq!(script.end, Err(kettleplume::Error::NotParsed));
+//! assert_eq!((script.errors.len(), script.stmts.len()), (1, 0));
+//! ```
+//!
 //! # In the original's place
 //!
 //! Code that was written for Grotsky's lexer, parser and state compiles when its `use` lines name this
@@ -89,14 +99,14 @@
 //! let mut tokens = vec![0; TOKEN_WORDS * rooms.tokens];
 //! let mut errors = vec![0; ERROR_WORDS * rooms.errors];
 //! let mut nodes = vec![0; NODE_WORDS * rooms.nodes];
-//! let answer = border::read(source, &mut tokens, &mut errors, &mut nodes);
+//! let answer = border::read(0, source, &mut tokens, &mut errors, &mut nodes);
 //! assert_eq!((answer.outcome, answer.tokens, answer.nodes), (0, 5, 4));
 //! // The first statement is node 4: an expression, whose last token is the third.
 //! assert_eq!(answer.first, 4);
 //! assert_eq!(nodes[NODE_WORDS * 3..NODE_WORDS * 4], [30, 3, 0, 0, 3, 0, 0, 0, 0]);
 //! ```
 //!
-//! [`records`] has the kinds of nodes, the outcomes and which word of a record is what, by name.
+//! [`records`] has the kinds of nodes, the outcomes, the ways and which word of a record is what, by name.
 //! [`Tables`] does the lending, [`values`] turns token and error records into the original's values, and
 //! [`unfold`] turns nodes into its statements. [`border::Parser`] reads one statement at a time.
 //!
@@ -126,6 +136,7 @@ mod discard;
 pub mod error;
 pub mod lexer;
 pub mod messages;
+mod options;
 pub mod parser;
 pub mod places;
 mod recorded;
@@ -160,9 +171,10 @@ pub mod token {
 pub use discard::discard;
 pub use error::Error;
 pub use messages::{message, MESSAGES};
+pub use options::{Options, Way};
 pub use recorded::Recorded;
-pub use script::{read, read_with, Parts, Script};
-pub use stand_in::{parse, read_state, scan};
+pub use script::{read, read_as, read_with, Parts, Script};
+pub use stand_in::{parse, read_state, read_state_as, scan};
 pub use tables::{Records, Rooms, Tables, LONGEST};
 
 /// The most nodes that are unfolded into trees, over all statements of a script.

@@ -1,5 +1,5 @@
 //! Document 01's numbers by name: how many words a record has and what stands in each, the kinds of
-//! nodes, the outcomes and some messages.
+//! nodes, the outcomes, the ways to read and some messages.
 //!
 //! These are the only definitions on the Rust side. The crates that compare with the original compile
 //! this file too, and hand the widths on to what they compile of C.
@@ -151,10 +151,20 @@ pub mod outcome {
     pub const NO_STRING: u32 = 9;
     /// The decoded string is longer than its buffer.
     pub const BUFFER_ROOM: u32 = 10;
+    /// Lexing recorded an error, and so nothing is parsed.
+    pub const NOT_PARSED: u32 = 11;
     /// The parser and the tables that were lent don't go together.
     pub const MISMATCH: u32 = 18;
     /// There is another statement to read.
     pub const MORE: u32 = 19;
+}
+
+/// What a reading does where lexing came to its end and recorded an error.
+pub mod way {
+    /// It stops before parsing.
+    pub const STOP: u32 = 0;
+    /// It parses all the same. So it does for every number but 0.
+    pub const GO_ON: u32 = 1;
 }
 
 /// The messages that the code has to know by their numbers.

@@ -4,6 +4,7 @@ use std::mem;
 
 use crate::discard::discard;
 use crate::error::Error;
+use crate::options::Options;
 use crate::recorded::Recorded;
 use crate::records::{self, outcome};
 use crate::stmt::Stmt;
@@ -31,6 +32,8 @@ pub struct Script {
     pub stmts: Vec<Stmt>,
     /// Whether reading came to the end of the script, which it does in spite of most errors.
     ///
+    /// - [`NotParsed`](Error::NotParsed), where the lexer recorded errors: tokens and those errors are
+    ///   there, and no statement. [`read_as`] can go on instead, as the original does.
     /// - [`Stopped`](Error::Stopped), where the original panics after an error, and
     ///   [`TooDeep`](Error::TooDeep): tokens and errors are there, and the statements before the one
     ///   in which that happened.
@@ -42,7 +45,8 @@ pub struct Script {
     pub end: Result<(), Error>,
 }
 
-/// Reads a script.
+/// Reads a script. Where the lexer records errors the statements are not read; [`read_as`] can choose
+/// otherwise.
 ///
 /// ```
 /// let script = kettleplume::read("stop = \"Gemshorn\"\n");
@@ -71,8 +75,24 @@ pub fn read(source: impl AsRef<[u8]>) -> Script {
 /// }
 /// ```
 pub fn read_with(tables: &mut Tables, source: impl AsRef<[u8]>) -> Script {
+    read_as(Options::default(), tables, source)
+}
+
+/// Reads a script in the way that is chosen.
+///
+/// ```
+/// use kettleplume::{read_as, Error, Options, Tables, Way};
+///
+/// let (mut tables, source) = (Tables::new(), "let stop = $8\n");
+/// let script = read_as(Options::default(), &mut tables, source);
+/// assert_eq!((script.end, script.stmts.len()), (Err(Error::NotParsed), 0));
+/// let options = Options { way: Way::GoOn, ..Options::default() };
+/// let script = read_as(options, &mut tables, source);
+/// assert_eq!((script.end, script.stmts.len()), (Ok(()), 1));
+/// ```
+pub fn read_as(options: Options, tables: &mut Tables, source: impl AsRef<[u8]>) -> Script {
     let source = source.as_ref();
-    let records = tables.read(source);
+    let records = tables.read_as(options, source);
     let tokens: Vec<_> = records
         .tokens
         .iter()

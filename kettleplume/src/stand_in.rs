@@ -1,6 +1,7 @@
 //! Reading into the original's state: what stands in for its lexer and its parser.
 
 use crate::error::Error;
+use crate::options::{Options, Way};
 use crate::records::{error, outcome, token};
 use crate::script::{ended, statements};
 use crate::state::{InterpreterError, InterpreterState};
@@ -71,10 +72,13 @@ pub(crate) fn close(tokens: &mut Vec<TokenData>, line: i32) {
 /// The library reads the source, not the tokens in the state. So these have to be what [`scan`] makes
 /// of that source, up to EOF; behind it there may be others, as the original never looks there. If
 /// they are not, the answer is [`OtherTokens`](Error::OtherTokens), and the state stays as it is.
+///
+/// What the lexer recorded doesn't matter: this stands for code that calls the original's parser, which
+/// is called or not.
 pub fn parse(state: &mut InterpreterState) -> Result<(), Error> {
     let mut tables = Tables::new();
     let source = state.source.as_bytes();
-    let records = tables.read(source);
+    let records = tables.read_as(Options { way: Way::GoOn }, source);
     // What is refused, or stops in lexing, has no tokens to be compared.
     if matches!(
         records.answer.outcome,
@@ -94,8 +98,9 @@ pub fn parse(state: &mut InterpreterState) -> Result<(), Error> {
     end
 }
 
-/// Lexes and parses the state's source in one reading: [`scan`] and then, if it came to the end,
-/// [`parse`].
+/// Lexes and parses the state's source in one reading: [`scan`] and then, if it came to the end and
+/// recorded no error, [`parse`]. Where it recorded one the answer is [`NotParsed`](Error::NotParsed), and
+/// there is no statement; [`read_state_as`] can go on instead.
 ///
 /// ```
 /// use kettleplume::state::InterpreterState;
@@ -107,12 +112,31 @@ pub fn parse(state: &mut InterpreterState) -> Result<(), Error> {
 /// assert_eq!((state.errors[0].line, state.errors[0].pos), (2, 10));
 /// ```
 pub fn read_state(state: &mut InterpreterState) -> Result<(), Error> {
+    read_state_as(Options::default(), state)
+}
+
+/// The same in the way that is chosen.
+///
+/// ```
+/// use kettleplume::state::InterpreterState;
+/// use kettleplume::{Options, Way};
+///
+/// let mut state = InterpreterState::new("let stop = $8\n".to_string());
+/// let options = Options { way: Way::GoOn, ..Options::default() };
+/// assert_eq!(kettleplume::read_state_as(options, &mut state), Ok(()));
+/// assert_eq!((state.errors.len(), state.stmts.len()), (1, 1));
+/// ```
+pub fn read_state_as(options: Options, state: &mut InterpreterState) -> Result<(), Error> {
     // What tokens that are there already do to the reading is for the two to tell.
     if !state.tokens.is_empty() {
+        let recorded = state.errors.len();
         scan(state)?;
+        if options.way == Way::Stop && state.errors.len() > recorded {
+            return Err(Error::NotParsed);
+        }
         return parse(state);
     }
-    let script = crate::read(&state.source).into_parts();
+    let script = crate::read_as(options, &mut Tables::new(), &state.source).into_parts();
     state.tokens = script.tokens;
     state
         .errors

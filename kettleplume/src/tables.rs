@@ -1,6 +1,7 @@
 //! Tables of records that are large enough for any source.
 
 use crate::border::{self, Answer, Scanned};
+use crate::options::Options;
 
 pub use crate::records::{ERROR_WORDS, LONGEST, NODE_WORDS, TOKEN_WORDS};
 
@@ -69,11 +70,16 @@ impl Tables {
 
     /// Reads a source; there is always room enough.
     pub fn read(&mut self, source: &[u8]) -> Records<'_> {
+        self.read_as(Options::default(), source)
+    }
+
+    /// The same in the way that is chosen.
+    pub fn read_as(&mut self, options: Options, source: &[u8]) -> Records<'_> {
         let rooms = Rooms::enough(source.len());
         let tokens = lent(&mut self.tokens, TOKEN_WORDS * rooms.tokens);
         let errors = lent(&mut self.errors, ERROR_WORDS * rooms.errors);
         let nodes = lent(&mut self.nodes, NODE_WORDS * rooms.nodes);
-        let answer = border::read(source, tokens, errors, nodes);
+        let answer = border::read(options.way.number(), source, tokens, errors, nodes);
         Records {
             answer,
             tokens: &tokens.as_chunks().0[..answer.tokens as usize],

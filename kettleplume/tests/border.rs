@@ -6,7 +6,7 @@ use std::ops::Range;
 use expected::lexing::{expect, expect_decoding};
 use expected::whole::{self, known, Known};
 use kettleplume::border::{decode, read, scan, Answer, Decoded, Parser};
-use kettleplume::records::{outcome, ERROR_WORDS, LONGEST, NODE_WORDS, TOKEN_WORDS};
+use kettleplume::records::{outcome, way, ERROR_WORDS, LONGEST, NODE_WORDS, TOKEN_WORDS};
 
 /// What stood in a table before.
 const BEFORE: u32 = 0x5a5a_5a5a;
@@ -61,13 +61,13 @@ impl Lent {
         }
     }
 
-    fn read(&mut self, source: &[u8]) -> Answer {
+    fn read(&mut self, way: u32, source: &[u8]) -> Answer {
         let Lent {
             tokens,
             errors,
             nodes,
         } = self;
-        read(source, tokens.lent(), errors.lent(), nodes.lent())
+        read(way, source, tokens.lent(), errors.lent(), nodes.lent())
     }
 
     fn begin(&mut self, parser: &mut Parser, source: &[u8]) -> Answer {
@@ -88,6 +88,9 @@ impl Lent {
         parser.next(source, tokens.lent(), errors.lent(), nodes.lent())
     }
 }
+
+/// Each number but 0 is the old way.
+const ANY_WAYS: [u32; 4] = [way::STOP, way::GO_ON, 2, u32::MAX];
 
 /// Scripts with all outcomes but 3, 4 and 8; these come in tests of their own.
 const SCRIPTS: [&str; 12] = [
@@ -148,19 +151,21 @@ fn counts(answer: &whole::Answer) -> Answer {
 
 #[test]
 fn whole_readings() {
-    let mut outcomes = [0; 9];
+    let mut outcomes = [0; 12];
     let count = over_tables(|script, whole, rooms, spare| {
-        let expected = whole.within(rooms);
-        let mut lent = Lent::new(rooms, spare);
-        let answer = lent.read(script.as_bytes());
-        assert_eq!(answer, counts(&expected), "{script:?} in {rooms:?}");
-        lent.tokens.holds(&expected.tokens, BEFORE);
-        lent.errors.holds(&expected.errors, BEFORE);
-        lent.nodes.holds(&expected.nodes, 0);
-        outcomes[answer.outcome as usize] += 1;
+        for way in ANY_WAYS {
+            let expected = whole.on(way, rooms);
+            let mut lent = Lent::new(rooms, spare);
+            let answer = lent.read(way, script.as_bytes());
+            assert_eq!(answer, counts(&expected), "{script:?} in {rooms:?}");
+            lent.tokens.holds(&expected.tokens, BEFORE);
+            lent.errors.holds(&expected.errors, BEFORE);
+            lent.nodes.holds(&expected.nodes, 0);
+            outcomes[answer.outcome as usize] += 1;
+        }
     });
     assert!(count > 1_000, "{count}");
-    for outcome in [0, 1, 2, 5, 6, 7] {
+    for outcome in [0, 1, 2, 5, 6, 7, 11] {
         assert!(outcomes[outcome] > 5, "{outcomes:?}");
     }
 }
@@ -169,32 +174,37 @@ fn whole_readings() {
 /// further changes nothing.
 #[test]
 fn statement_by_statement() {
-    let mut statements = 0;
+    let (mut statements, mut stopped) = (0, 0);
     over_tables(|script, _, rooms, spare| {
-        let source = script.as_bytes();
-        let (mut at_once, mut lent) = (Lent::new(rooms, spare), Lent::new(rooms, spare));
-        let whole = at_once.read(source);
-        // Whatever the parser was.
-        let mut parser = Parser {
-            current: 7,
-            ended: 1,
-            ..Parser::default()
-        };
-        let mut answer = lent.begin(&mut parser, source);
-        while answer.outcome == outcome::MORE {
-            answer = lent.next(&mut parser, source);
-            statements += 1;
+        for way in ANY_WAYS {
+            let source = script.as_bytes();
+            let (mut at_once, mut lent) = (Lent::new(rooms, spare), Lent::new(rooms, spare));
+            let whole = at_once.read(way, source);
+            // Whatever else the parser was.
+            let mut parser = Parser {
+                way,
+                current: 7,
+                ended: 1,
+                ..Parser::default()
+            };
+            let mut answer = lent.begin(&mut parser, source);
+            while answer.outcome == outcome::MORE {
+                answer = lent.next(&mut parser, source);
+                statements += 1;
+            }
+            let left = (answer, lent.clone(), parser);
+            assert_eq!(
+                (answer, &lent),
+                (whole, &at_once),
+                "{script:?} in {rooms:?}"
+            );
+            assert_eq!(lent.next(&mut parser, source), answer);
+            assert_eq!((answer, lent, parser), left);
+            assert_eq!((parser.way, parser.outcome), (way, answer.outcome));
+            stopped += usize::from(answer.outcome == outcome::NOT_PARSED);
         }
-        let left = (answer, lent.clone(), parser);
-        assert_eq!(
-            (answer, &lent),
-            (whole, &at_once),
-            "{script:?} in {rooms:?}"
-        );
-        assert_eq!(lent.next(&mut parser, source), answer);
-        assert_eq!((answer, lent, parser), left);
     });
-    assert!(statements > 500, "{statements}");
+    assert!(statements > 500 && stopped > 50, "{statements} {stopped}");
 }
 
 /// A parser that doesn't go with its tables: nothing is changed.
@@ -248,10 +258,15 @@ fn refused_sources() {
         for rooms in [[0, 0, 0], [3, 3, 3]] {
             let before = Lent::new(rooms, 1);
             let mut lent = before.clone();
-            assert_eq!(lent.read(&source), refused);
-            let mut parser = Parser::default();
-            assert_eq!(lent.begin(&mut parser, &source), refused);
-            assert_eq!(lent.next(&mut parser, &source), refused);
+            for way in ANY_WAYS {
+                assert_eq!(lent.read(way, &source), refused);
+                let mut parser = Parser {
+                    way,
+                    ..Parser::default()
+                };
+                assert_eq!(lent.begin(&mut parser, &source), refused);
+                assert_eq!(lent.next(&mut parser, &source), refused);
+            }
             let answer = scan(&source, lent.tokens.lent(), lent.errors.lent());
             assert_eq!(
                 (answer.outcome, answer.tokens, answer.errors),
@@ -271,7 +286,7 @@ fn refused_sources() {
 fn too_many_levels() {
     let script = "a\n".to_string() + &"{".repeat(129);
     let mut lent = Lent::new([200, 9, 300], 4);
-    let answer = lent.read(script.as_bytes());
+    let answer = lent.read(way::STOP, script.as_bytes());
     let kept = [answer.outcome, answer.errors, answer.nodes, answer.first];
     assert_eq!(kept, [8, 0, 2, 2]);
     let nodes = [[2, 1, 0, 0, 0, 0, 0, 0, 0], [30, 1, 0, 0, 1, 0, 0, 0, 0]];
@@ -316,7 +331,7 @@ fn decodings() {
 #[test]
 fn worked_example() {
     let mut lent = Lent::new([10, 10, 10], 0);
-    let answer = lent.read(b"a = 1\n");
+    let answer = lent.read(way::STOP, b"a = 1\n");
     let expected = Answer {
         outcome: 0,
         tokens: 5,

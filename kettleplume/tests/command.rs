@@ -10,7 +10,7 @@ use std::process::{Command, Output, Stdio};
 use std::sync::atomic::{AtomicUsize, Ordering};
 
 use kettleplume::border::{self, Answer};
-use kettleplume::records::{outcome, ERROR_WORDS, NODE_WORDS, TOKEN_WORDS};
+use kettleplume::records::{outcome, way, ERROR_WORDS, NODE_WORDS, TOKEN_WORDS};
 
 /// A folder of one test, with the scripts that it reads.
 struct Folder(PathBuf);
@@ -76,19 +76,112 @@ impl Ran {
     }
 }
 
-/// The report of one script, and the exit status.
+/// The report of one script on the old way, which tells all that is found, and the exit status.
 fn report(script: impl AsRef<[u8]>) -> (String, i32) {
-    let ran = Folder::with(&[("s.gr", script.as_ref())]).run(&["read", "s.gr"]);
+    reported(&["read", "--go-on", "s.gr"], script)
+}
+
+fn reported(words: &[&str], script: impl AsRef<[u8]>) -> (String, i32) {
+    let ran = Folder::with(&[("s.gr", script.as_ref())]).run(words);
     assert_eq!(ran.err, "");
     (ran.out, ran.status)
 }
 
-/// A report has these lines, below each other, and the exit status is as said.
+/// A report on the old way has these lines, below each other, and the exit status is as said.
 #[track_caller]
 fn reports(script: impl AsRef<[u8]>, status: i32, lines: &[&str]) {
     let (out, code) = report(script);
     assert_eq!(out.lines().collect::<Vec<_>>(), lines);
     assert_eq!(code, status);
+}
+
+/// The same on the way that the command takes if nothing is said.
+#[track_caller]
+fn stops(script: impl AsRef<[u8]>, status: i32, lines: &[&str]) {
+    let (out, code) = reported(&["read", "s.gr"], script);
+    assert_eq!(out.lines().collect::<Vec<_>>(), lines);
+    assert_eq!(code, status);
+}
+
+#[test]
+fn statements_are_not_read_after_mistakes_of_the_lexer() {
+    stops(
+        "let stop = \"Salicional\nlet pitch = 8\nprint(stop)\n",
+        1,
+        &[
+            "s.gr:1:12: Closing \" was expected",
+            "     1 | let stop = \"Salicional",
+            "       |            ^",
+            "       = the string that begins here is not closed up to the end of the script \
+             (recorded with line 4)",
+            "s.gr: its statements were not read, because of the mistake above",
+        ],
+    );
+    stops(
+        "a $ b )\n!\n",
+        1,
+        &[
+            "s.gr:1:3: Illegal character",
+            "     1 | a $ b )",
+            "       |   ^",
+            "s.gr:2:1: '!' cannot be used here",
+            "     2 | !",
+            "       | ^",
+            "s.gr: its statements were not read, because of the 2 mistakes above",
+        ],
+    );
+}
+
+/// What the parser finds, and a number that runs to the last byte, is told on both ways.
+#[test]
+fn statements_are_read_without_such_mistakes() {
+    for script in [
+        "",
+        "a = 1\n",
+        "flute4\n",
+        "a\n)\nb\n",
+        "@ 1.5",
+        "let a = \"x\ny\" b\n",
+    ] {
+        let new = reported(&["read", "s.gr"], script);
+        assert_eq!(new, report(script), "{script:?}");
+        assert!(!new.0.contains("were not read"), "{script:?}");
+    }
+}
+
+/// The nightly batch: with --go-on, and in outlines, the command prints of the scripts in `nightly` what
+/// it printed before it could stop. The two texts there are that version's.
+#[test]
+fn the_nightly_batch_stays_as_it_was() {
+    let folder = Path::new(env!("CARGO_MANIFEST_DIR")).join("tests/nightly");
+    let entries = fs::read_dir(&folder).expect("the folder is there");
+    let names = entries.map(|entry| entry.expect("an entry").file_name().into_string());
+    let mut scripts: Vec<String> = names.map(|name| name.expect("a name")).collect();
+    scripts.retain(|name| name.ends_with(".gr"));
+    scripts.sort();
+    assert_eq!(scripts.len(), 11);
+    let run = |options: &[&str]| {
+        let mut command = Command::new(env!("CARGO_BIN_EXE_kettleplume"));
+        command.arg("read").args(options).args(&scripts);
+        Ran::of(
+            command
+                .current_dir(&folder)
+                .output()
+                .expect("the command runs"),
+        )
+    };
+    let before = |name| fs::read_to_string(folder.join(name)).expect("the text is there");
+    run(&["--go-on"]).is(1, &before("report.txt"), "");
+    for options in [&["--outline"][..], &["--outline", "--go-on"]] {
+        run(options).is(1, &before("outline.txt"), "");
+    }
+    // Without the option it stops, in the seven scripts whose lexer records an error and comes to its end.
+    let stopped = run(&[]);
+    assert_eq!(
+        stopped.out.matches("its statements were not read").count(),
+        7
+    );
+    assert_ne!(stopped.out, before("report.txt"));
 }
 
 #[test]
@@ -823,7 +916,7 @@ fn outlines_of_the_proved_program() {
             equal += 1;
         }
     }
-    assert_eq!((equal, scripts.len()), (16, 21));
+    assert_eq!((equal, scripts.len()), (17, 22));
 }
 
 /// What the program `outline` prints, by its rooms, or nothing where one of them is too small.
@@ -833,7 +926,7 @@ fn within_rooms(script: &[u8]) -> Option<String> {
         [0; ERROR_WORDS * 256],
         [0; NODE_WORDS * 1600],
     );
-    let answer = border::read(script, &mut tokens, &mut errors, &mut nodes);
+    let answer = border::read(way::GO_ON, script, &mut tokens, &mut errors, &mut nodes);
     if script.len() > 4096 || (outcome::TOKEN_ROOM..=outcome::NODE_ROOM).contains(&answer.outcome) {
         return None;
     }

@@ -3,12 +3,13 @@
 mod common;
 
 use kettleplume::border;
-use kettleplume::records::{outcome, ERROR_WORDS, NODE_WORDS, TOKEN_WORDS};
-use kettleplume::{Error, Rooms, Tables, LONGEST};
+use kettleplume::records::{outcome, way, ERROR_WORDS, NODE_WORDS, TOKEN_WORDS};
+use kettleplume::{Error, Options, Rooms, Tables, Way, LONGEST};
 
-/// Reads a source with tables of just the rooms that are said to be enough.
+/// Reads a source with tables of just the rooms that are said to be enough, on the way that keeps more.
 fn has_room(tables: &mut Tables, source: &[u8]) {
-    let outcome = tables.read(source).answer.outcome;
+    let options = Options { way: Way::GoOn };
+    let outcome = tables.read_as(options, source).answer.outcome;
     let shown = source.escape_ascii();
     let full = matches!(
         outcome,
@@ -105,7 +106,8 @@ fn the_bound_for_tokens_is_met() {
             let mut tokens = vec![0; TOKEN_WORDS * tokens];
             let mut errors = vec![0; ERROR_WORDS * rooms.errors];
             let mut nodes = vec![0; NODE_WORDS * rooms.nodes];
-            border::read(source.as_bytes(), &mut tokens, &mut errors, &mut nodes)
+            let source = source.as_bytes();
+            border::read(way::GO_ON, source, &mut tokens, &mut errors, &mut nodes)
         };
         let answer = read(rooms.tokens);
         assert_eq!(

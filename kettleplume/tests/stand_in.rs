@@ -11,9 +11,12 @@ use expected::whole::Whole;
 use kettleplume::lexer::Lexer;
 use kettleplume::parser::Parser;
 use kettleplume::state::{InterpreterError, InterpreterState};
-use kettleplume::{parse, read_state, scan, Error};
+use kettleplume::{parse, read_state, read_state_as, scan, Error, Options, Tables, Way};
 use oracle::state::InterpreterState as Original;
 use oracle::{on_large_stack, Reading, Stop};
+
+/// The way of the original.
+const GOING_ON: Options = Options { way: Way::GoOn };
 
 thread_local! {
     /// Whether this thread waits for a panic.
@@ -94,9 +97,20 @@ fn compare(script: &str) {
     assert_eq!(format!("{state:?}"), after_parse);
 
     let mut state = fresh(script);
-    let ended = read_state(&mut state);
+    let ended = read_state_as(GOING_ON, &mut state);
     assert_eq!(ended.err(), stopped(read.stop), "{script:?}");
     assert_eq!(format!("{state:?}"), after_parse);
+
+    // The new way stops behind the lexer, or is the same.
+    let mut state = fresh(script);
+    let ended = read_state(&mut state);
+    let stops = lexed.stop == Stop::None && !lexed.errors.is_empty();
+    let (end, left) = match stops {
+        true => (Some(Error::NotParsed), after_scan),
+        false => (stopped(read.stop), after_parse),
+    };
+    assert_eq!(ended.err(), end, "{script:?}");
+    assert_eq!(format!("{state:?}"), left);
 }
 
 #[test]
@@ -105,7 +119,8 @@ fn states_are_left_as_the_original_leaves_them() {
         let mut count = 0;
         for script in common::scripts() {
             // The original has no limit of levels.
-            if kettleplume::read(&script).end != Err(Error::TooDeep) {
+            let read = kettleplume::read_as(GOING_ON, &mut Tables::new(), &script);
+            if read.end != Err(Error::TooDeep) {
                 compare(&script);
                 count += 1;
             }

@@ -1,9 +1,10 @@
-//! The safe call gives what the original gives: tokens, errors, statements, and where it stops.
+//! The safe call gives, on the old way, what the original gives: tokens, errors, statements, and where
+//! it stops.
 
 mod common;
 
 use expected::whole::Whole;
-use kettleplume::{read, read_with, Error, Tables};
+use kettleplume::{read, read_as, read_with, Error, Options, Tables, Way};
 use oracle::{on_large_stack, Reading, Stop};
 
 /// How many scripts ended in each way.
@@ -22,7 +23,7 @@ fn same<A: std::fmt::Debug, B: std::fmt::Debug>(ours: &[A], original: &[B], what
 }
 
 fn compare(script: &str, tables: &mut Tables, ends: &mut Ends) {
-    let ours = read_with(tables, script);
+    let ours = read_as(Options { way: Way::GoOn }, tables, script);
     let original: Reading = oracle::read(script);
     let what = format!("of {script:?}");
     same(&ours.tokens, &original.tokens, &what);

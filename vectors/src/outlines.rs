@@ -7,7 +7,7 @@ use std::path::PathBuf;
 use std::{fs, iter};
 
 use expected::lexing::rust_string;
-use expected::records::outcome;
+use expected::records::{outcome, way};
 use oracle::on_large_stack;
 
 use crate::definition::{case, End, Script};
@@ -30,6 +30,7 @@ pub fn outline(source: &[u8], ends: Option<(u32, [usize; 3])>) -> String {
         return head(outcome::NO_TEXT);
     }
     let script = Script {
+        way: way::GO_ON,
         text: source.iter().map(|b| char::from(*b)).collect(),
         ends: ends.map(|(outcome, kept)| End {
             outcome,
@@ -67,7 +68,8 @@ pub struct Ending {
 }
 
 /// The first scripts of the program `outcomes`, in the order in which it prints them: each outcome
-/// of document 01 under the rooms of `outline`, both ways to 6, and what an outline says of lines.
+/// of document 01 under the rooms of `outline`, both ways to 6, what an outline says of lines, and
+/// that it goes on after a bad lexing.
 pub fn endings() -> Vec<Ending> {
     let known = |text: &str| Ending {
         script: text.as_bytes().to_vec(),
@@ -109,6 +111,8 @@ pub fn endings() -> Vec<Ending> {
         known("\"x\ny\nz\"\n"),
         known("a\n\nb"),
         known(""),
+        // An outline goes on after a bad lexing.
+        known("a $ b )\n"),
     ]
 }
 

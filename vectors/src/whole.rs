@@ -5,9 +5,10 @@ use std::fmt::Write as _;
 
 use expected::dice::Dice;
 use expected::maker::Maker;
-use expected::records::WIDTHS;
+use expected::records::{way, WIDTHS};
 use expected::scripts::{
-    around, LEFT_OF_EQUAL, MESSAGES, NEWLINES, SMALL, STARS, UNSTARRED, WAYS, WORKED,
+    around, LEFT_OF_EQUAL, MESSAGES, MISLEXED, MISLEXED_SMALL, NEWLINES, SMALL, STARS, UNSTARRED,
+    WAYS, WORKED,
 };
 use expected::whole::{known, Answer, Known};
 use oracle::on_large_stack;
@@ -44,6 +45,7 @@ pub fn vectors() -> Vectors {
         vectors.exact(&format!("# {}\n", made_by()));
         vectors.listed();
         vectors.small();
+        vectors.mislexed();
         vectors.levels();
         vectors.random();
         vectors
@@ -64,6 +66,17 @@ impl Vectors {
             let bytes: Vec<u8> = text.chars().map(|c| c as u8).collect();
             let tails = WIDTHS.map(|width| at % width);
             self.add(&bytes, *rooms, tails);
+        }
+    }
+
+    /// What the ways differ in, and the largest number that an input can give for one.
+    fn mislexed(&mut self) {
+        for text in MISLEXED {
+            self.exact(text);
+            self.on(99_999, text.as_bytes(), [9, 9, 9], [1, 1, 1]);
+        }
+        for (at, (text, _, rooms, _)) in MISLEXED_SMALL.iter().enumerate() {
+            self.add(text.as_bytes(), *rooms, WIDTHS.map(|width| at % width));
         }
     }
 
@@ -104,8 +117,14 @@ impl Vectors {
         self.add(text.as_bytes(), whole.needs(), [0; 3]);
     }
 
-    /// A script in tables with rooms and spare tails.
+    /// A script in tables with rooms and spare tails, on both ways.
     fn add(&mut self, source: &[u8], rooms: [usize; 3], tails: [usize; 3]) {
+        for way in [way::GO_ON, way::STOP] {
+            self.on(way, source, rooms, tails);
+        }
+    }
+
+    fn on(&mut self, way: u32, source: &[u8], rooms: [usize; 3], tails: [usize; 3]) {
         let sizes = [0, 1, 2].map(|table| WIDTHS[table] * rooms[table] + tails[table]);
         assert!(sizes.iter().all(|&size| size <= TABLE), "too large a table");
         let refused = |outcome| Answer {
@@ -113,12 +132,12 @@ impl Vectors {
             ..Answer::default()
         };
         let (answer, behind) = match known(source) {
-            Known::Read(whole) => (whole.within(rooms), 0),
+            Known::Read(whole) => (whole.on(way, rooms), 0),
             Known::Refused(outcome) => (refused(outcome), FILL),
         };
         let [t, e, n] = sizes;
         self.stdin
-            .extend(format!("{:05} {t:05} {e:05} {n:05}\n", source.len()).bytes());
+            .extend(format!("{:05} {way:05} {t:05} {e:05} {n:05}\n", source.len()).bytes());
         self.stdin.extend(source);
         self.stdin.push(b'\n');
         self.write(&answer, sizes, behind);

@@ -12,6 +12,7 @@ use Rattle.records.specs.Table.{room, tokenWidth, errorWidth}
 use Rattle.items.specs.declared.Item.{Item}
 use Rattle.lexer.specs.Lex.{Result, emit, fresh, refusal, pickResult, lexed, lexedOf}
 use Rattle.parser.specs.Whole.{Parsed, parsed}
+use Rattle.entry.specs.Ways.{onWay}
 use Rattle.entry.specs.Entry.{over, enteredAfter}
 use Rattle.entry.specs.Reading.{Reading, readAfter, reading}
 use Rattle.whole.specs.Sizes.{SameReading}
@@ -40,25 +41,26 @@ pub parsed-same : (s r t e n : List ℕ) (tokenRoom errorRoom : ℕ) → Blackou
     ≡ parsed (over (lexedOf r tokenRoom errorRoom .tokens) t) (lexedOf r tokenRoom errorRoom .errorCount) (over (lexedOf r tokenRoom errorRoom .errors) e) n
 parsed-same s r t e n a b h = ap (λ (d : Result). parsed (over (d .tokens) t) (d .errorCount) (over (d .errors) e) n) (lexedOf-same s r a b h)
 
--- the whole reading into the same tables: the same answer, and every word of all three
-pub reading-equal : (s r t e n : List ℕ) → Blackout s r → reading s t e n ≡ reading r t e n
+-- the whole reading, on the same way, into the same tables: the same answer, and every word of all three
+pub reading-equal : (way : ℕ) (s r t e n : List ℕ) → Blackout s r → reading way s t e n ≡ reading way r t e n
 unfolding reading
-reading-equal s r t e n h = ap (λ (d : Result). readAfter (enteredAfter d t e n)) (lexedOf-same s r (room tokenWidth t) (room errorWidth e) h)
+reading-equal way s r t e n h = ap (λ (d : Result). readAfter (enteredAfter (onWay way d) t e n)) (lexedOf-same s r (room tokenWidth t) (room errorWidth e) h)
 
--- DEMAND 3: the whole reading into equally large tables, whatever they held: the same outcome, counts, first statement and kept records
-pub reading-same : (s r t e n t′ e′ n′ : List ℕ) → Blackout s r → length t ≡ length t′ → length e ≡ length e′ → length n ≡ length n′ → SameReading (reading s t e n) (reading r t′ e′ n′)
-reading-same s r t e n t′ e′ n′ h tl el nl = subst (λ (x : Reading). SameReading (reading s t e n) x) (reading-equal s r t′ e′ n′ h) (reading-sizes s t e n t′ e′ n′ tl el nl)
+-- DEMAND 3: the whole reading, on either way, the same for both, into equally large tables, whatever they held: the same outcome, counts, first statement and
+-- kept records
+pub reading-same : (way : ℕ) (s r t e n t′ e′ n′ : List ℕ) → Blackout s r → length t ≡ length t′ → length e ≡ length e′ → length n ≡ length n′ → SameReading (reading way s t e n) (reading way r t′ e′ n′)
+reading-same way s r t e n t′ e′ n′ h tl el nl = subst (λ (x : Reading). SameReading (reading way s t e n) x) (reading-equal way s r t′ e′ n′ h) (reading-sizes way s t e n t′ e′ n′ tl el nl)
 
 -- and every word of the node table, for both are read
-pub nodes-same : (s r t e n t′ e′ n′ : List ℕ) → Blackout s r → length t ≡ length t′ → length e ≡ length e′ → length n ≡ length n′ → reading s t e n .nodes ≡ reading r t′ e′ n′ .nodes
-nodes-same s r t e n t′ e′ n′ h tl el nl = reading-same s r t e n t′ e′ n′ h tl el nl .nodes (reading-read s t e n (h .within) (is-true (isText s) (h .first-text)))
+pub nodes-same : (way : ℕ) (s r t e n t′ e′ n′ : List ℕ) → Blackout s r → length t ≡ length t′ → length e ≡ length e′ → length n ≡ length n′ → reading way s t e n .nodes ≡ reading way r t′ e′ n′ .nodes
+nodes-same way s r t e n t′ e′ n′ h tl el nl = reading-same way s r t e n t′ e′ n′ h tl el nl .nodes (reading-read way s t e n (h .within) (is-true (isText s) (h .first-text)))
 
 -- beyond the limit equally long scripts are refused alike, whatever they hold: of all clauses the limit alone is not needed for the same reading
-pub beyond-same : (s r t e n : List ℕ) → 65535 < length s → length s ≡ length r → reading s t e n ≡ reading r t e n
+pub beyond-same : (way : ℕ) (s r t e n : List ℕ) → 65535 < length s → length s ≡ length r → reading way s t e n ≡ reading way r t e n
 unfolding reading lexedOf
-beyond-same s r t e n h l =
+beyond-same way s r t e n h l =
     let a = room tokenWidth t in
     let b = room errorWidth e in
     let i : lexedOf s a b ≡ refusal 4 = simp (lt-ltb 65535 (length s) h) in
     let j : lexedOf r a b ≡ refusal 4 = simp (lt-ltb 65535 (length r) (omega arith)) in
-    ap (λ (d : Result). readAfter (enteredAfter d t e n)) (i ∙ sym j)
+    ap (λ (d : Result). readAfter (enteredAfter (onWay way d) t e n)) (i ∙ sym j)

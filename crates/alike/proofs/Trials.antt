@@ -6,6 +6,7 @@ use lib.ListN.{replicate, take}
 use Rattle.token.specs.Keyword.{same}
 use Rattle.text.proofs.Codes.{codes}
 use Rattle.records.specs.Table.{tokenWidth, errorWidth, nodeWidth}
+use Rattle.entry.specs.Ways.{goOn}
 use Rattle.entry.specs.Reading.{Reading, reading}
 use Rattle.blackout.proofs.Trials.{Pair, pair}
 
@@ -17,9 +18,9 @@ kept r =
     take (errorWidth * r .errorCount) (r .errors) ++
     take (nodeWidth * r .nodeCount) (r .nodes)
 
--- a reading into tables that are large enough here, and held the word w
+-- a reading, on the original's way, into tables that are large enough here, and held the word w
 abbrev pub readInto : ℕ → List ℕ → List ℕ
-readInto w s = kept (reading s (replicate (tokenWidth * 24) w) (replicate (errorWidth * 12) w) (replicate (nodeWidth * 24) w))
+readInto w s = kept (reading goOn s (replicate (tokenWidth * 24) w) (replicate (errorWidth * 12) w) (replicate (nodeWidth * 24) w))
 
 -- whether pairs are read alike; the tables of the two readings held other words
 abbrev pub answers : List Pair → List Bool

@@ -8,6 +8,7 @@ use borrow.Author.Tests.{not-true, not-false}
 use Rattle.records.specs.Table.{room, zeroed, tokenWidth, errorWidth, nodeWidth}
 use Rattle.lexer.specs.declared.Scanned.{Scanned}
 use Rattle.lexer.specs.Lex.{lexedOf, Lexing}
+use Rattle.entry.specs.Ways.{outcomeOn}
 use Rattle.entry.specs.Entry.{Entered, unread, nodesAfter, entered, Enters}
 
 -- the code asks whether an outcome is none of 0, 3 and 4
@@ -30,26 +31,33 @@ is-kept o = at (eqb o 0) (eqb o 3) (eqb o 4)
     at false true c h = refl
     at false false c h = not-false c h
 
-module _ (s t e n T E : List ℕ) (d : Scanned) (l : Lexing (lexedOf s (room tokenWidth t) (room errorWidth e)) d t T e E) where
+module _ (way : ℕ) (s t e n T E : List ℕ) (d : Scanned) (l : Lexing (lexedOf s (room tokenWidth t) (room errorWidth e)) d t T e E) (o : ℕ) (is : o ≡ outcomeOn way (d .outcome) (d .errors)) where
+  -- lexing's answer, with the outcome that its own becomes on the way
+  abbrev answer : Scanned
+  answer = record { outcome = o; tokens = d .tokens; errors = d .errors }
+
+  outcome-is : o ≡ entered way s t e n .outcome
+  outcome-is = is ∙ λ i. outcomeOn way (l .outcome-is i) (l .errors-are i)
+
   -- with the node table that the outcome asks for
-  stands : (N : List ℕ) → N ≡ nodesAfter (d .outcome) n → Enters (entered s t e n) d T E N
+  stands : (N : List ℕ) → N ≡ nodesAfter o n → Enters (entered way s t e n) answer T E N
   stands N h =
       record {
-        outcome-is = l .outcome-is;
+        outcome-is = outcome-is;
         tokens-are = l .tokens-are;
         errors-are = l .errors-are;
         token-table = l .token-table;
         error-table = l .error-table;
-        node-table = h ∙ ap (λ (o : ℕ). nodesAfter o n) (l .outcome-is);
+        node-table = h ∙ ap (λ (x : ℕ). nodesAfter x n) outcome-is;
       }
 
   -- the node table is as it was
-  pub leaves : other (d .outcome) ≡ false → Enters (entered s t e n) d T E n
-  leaves u = stands n (ap (λ (b : Bool). cond b n (zeroed nodeWidth n 0)) (sym (is-kept (d .outcome) u)))
+  pub leaves : other o ≡ false → Enters (entered way s t e n) answer T E n
+  leaves u = stands n (ap (λ (b : Bool). cond b n (zeroed nodeWidth n 0)) (sym (is-kept o u)))
 
   -- it is all zeros
-  pub clears : (N : List ℕ) → other (d .outcome) ≡ true → N ≡ zeroed nodeWidth n 0 → Enters (entered s t e n) d T E N
-  clears N u h = stands N (h ∙ ap (λ (b : Bool). cond b n (zeroed nodeWidth n 0)) (sym (is-other (d .outcome) u)))
+  pub clears : (N : List ℕ) → other o ≡ true → N ≡ zeroed nodeWidth n 0 → Enters (entered way s t e n) answer T E N
+  clears N u h = stands N (h ∙ ap (λ (b : Bool). cond b n (zeroed nodeWidth n 0)) (sym (is-other o u)))
 
 -- ---- what the code has stands
 abbrev pub standing : Scanned → List ℕ → List ℕ → List ℕ → Entered

@@ -9,6 +9,7 @@ use Rattle.records.specs.Outcomes.{ended, notText, tooLong}
 use Rattle.records.specs.Table.{room, zeroed, tokenWidth, errorWidth, nodeWidth}
 use Rattle.lexer.specs.declared.Scanned.{Scanned}
 use Rattle.lexer.specs.Lex.{Result, lexedOf}
+use Rattle.entry.specs.Ways.{onWay}
 
 -- what stands then: outcome 0 where what was lexed is parsed, any other ends the reading; how many tokens and errors are kept; and the three tables
 pub record Entered : Type 0 where
@@ -42,9 +43,9 @@ enteredAfter d t e n = record {
   nodes = nodesAfter (d .outcome) n;
 }
 
--- of any bytes, into tables t, e and n
-abbrev pub entered : List ℕ → List ℕ → List ℕ → List ℕ → Entered
-entered s t e n = enteredAfter (lexedOf s (room tokenWidth t) (room errorWidth e)) t e n
+-- on either way, of any bytes, into tables t, e and n
+abbrev pub entered : ℕ → List ℕ → List ℕ → List ℕ → List ℕ → Entered
+entered way s t e n = enteredAfter (onWay way (lexedOf s (room tokenWidth t) (room errorWidth e))) t e n
 
 -- what the step answers, and the three tables it leaves: every word of them
 pub record Enters (d : Entered) (r : Scanned) (tokens′ errors′ nodes′ : List ℕ) : Type 0 where

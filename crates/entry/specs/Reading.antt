@@ -1,4 +1,4 @@
--- The whole reading, from bytes to the three tables: outcomes 0 to 8 in document 01's order.
+-- The whole reading, from bytes to the three tables: outcomes 0 to 8 in document 01's order, and 11 between lexing's and parsing's.
 use Prim.Native.Nat.{ℕ}
 use mathlib.Core.Path.{_≡_}
 use mathlib.Core.Bool.{Bool, true, false}
@@ -37,9 +37,9 @@ pickReading false a b = b tt
 abbrev pub readAfter : Entered → Reading
 readAfter d = pickReading (eqb (d .outcome) ended) (λ _. joined (d .tokenCount) (d .tokens) (parsed (d .tokens) (d .errorCount) (d .errors) (d .nodes))) λ _. refused d
 
--- the reading of any bytes into tables t, e and n
-unfoldable pub reading : List ℕ → List ℕ → List ℕ → List ℕ → Reading
-reading s t e n = readAfter (entered s t e n)
+-- the reading of any bytes, on either way, into tables t, e and n
+unfoldable pub reading : ℕ → List ℕ → List ℕ → List ℕ → List ℕ → Reading
+reading way s t e n = readAfter (entered way s t e n)
 
 -- what a reading answers, and the three tables it leaves: every word of them
 pub record Answers (d : Reading) (r : Answer) (tokens′ errors′ nodes′ : List ℕ) : Type 0 where

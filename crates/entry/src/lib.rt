@@ -1,4 +1,6 @@
 // The step from lexing to parsing, and what a whole reading is: its definition and its answer.
+ghost use mathlib.Core.Path.{_≡_};
+ghost use Rattle.entry.specs.Ways.{outcomeOn};
 ghost use Rattle.entry.specs.Entry.{entered, Enters};
 use lexer::Scanned;
 use records::Outcome;
@@ -13,18 +15,52 @@ pub struct Answer {
     pub first: u32,
 }
 
-// The step from lexing to parsing: `read` begins with it, and the reading of a statement at a time. With outcome 0 what was lexed is to be parsed, also if
-// errors were recorded. Any other ends the reading: after 3 and 4 the node table is as it was, else it is all zeros.
-pub fn enter(source: &[u8], tokens: &mut [u32], errors: &mut [u32], nodes: &mut [u32]) -> Scanned
-    ensures { λ r. ⌜ Enters (entered (now (source .entry)) (now (tokens .entry)) (now (errors .entry)) (now (nodes .entry)))
+// The two ways of a reading, named here once: the numbers of specs/Ways.antt.
+pub struct Way {
+    pub number: u32,
+}
+
+impl Way {
+    // The new way: nothing is parsed where lexing recorded an error.
+    pub const STOP: u32 = 0;
+
+    // The old way: what was lexed to its end is parsed. So it is for every number but 0.
+    pub const GO_ON: u32 = 1;
+}
+
+// What becomes of lexing's outcome on a way.
+fn outcome_on(way: u32, outcome: u32, errors: u32) -> u32
+    ensures { λ r. ⌜ r ≡ outcomeOn way outcome errors ⌝ }
+{
+    if (way == Way::STOP) & ((outcome == Outcome::ENDED) & (errors > 0)) {
+        return Outcome::NOT_PARSED;
+    }
+    outcome
+}
+
+// The step from lexing to parsing: `read` begins with it, and the reading of a statement at a time. With outcome 0 what was lexed is to be parsed. Any other
+// ends the reading: after 3 and 4 the node table is as it was, else it is all zeros.
+pub fn enter(
+    way: u32,
+    source: &[u8],
+    tokens: &mut [u32],
+    errors: &mut [u32],
+    nodes: &mut [u32],
+) -> Scanned
+    ensures { λ r. ⌜ Enters (entered way (now (source .entry)) (now (tokens .entry)) (now (errors .entry)) (now (nodes .entry)))
         r (now (tokens .exit)) (now (errors .exit)) (now (nodes .exit)) ⌝ }
 {
     let d = lexer::scan(source, tokens, errors);
-    if (d.outcome != Outcome::ENDED)
-        & (d.outcome != Outcome::NOT_TEXT)
-        & (d.outcome != Outcome::TOO_LONG)
+    let outcome = outcome_on(way, d.outcome, d.errors);
+    if (outcome != Outcome::ENDED)
+        & (outcome != Outcome::NOT_TEXT)
+        & (outcome != Outcome::TOO_LONG)
     {
         records::zero_rest(nodes, 0);
     }
-    d
+    Scanned {
+        outcome,
+        tokens: d.tokens,
+        errors: d.errors,
+    }
 }

@@ -7,6 +7,7 @@ ghost use lib.ListN.{getD};
 ghost use Rattle.io.specs.Counts.{Counts};
 ghost use Rattle.form.specs.Text.{Holds, field, lineOf, linesOf, headOf, readOf, textOf, outlineOf};
 use entry::Answer;
+use entry::Way;
 
 // The longest script that is read.
 const MOST_BYTES: usize = 4096;
@@ -133,7 +134,7 @@ fn reading(out: &mut [u8], r: Answer, tokens: &[u32], errors: &[u32], nodes: &[u
     lines(out, c, b'n', nodes, records::NODE_WIDTH, &node, r.nodes)
 }
 
-// The outline of a script, within document 01's rooms.
+// The outline of a script, within document 01's rooms, on the old way: 11 is never printed.
 pub fn outline(source: &[u8], out: &mut [u8]) -> usize
     ensures { λ r. ⌜ Holds (outlineOf (now (source .entry))) (now (out .entry)) (now (out .exit)) r ⌝ }
     ensures { λ r. ⌜ Counts r (now (out .exit)) ⌝ }
@@ -151,6 +152,6 @@ pub fn outline(source: &[u8], out: &mut [u8]) -> usize
         };
         return head(out, 0, r);
     }
-    let r = reader::read(source, &mut tokens, &mut errors, &mut nodes);
+    let r = reader::read(Way::GO_ON, source, &mut tokens, &mut errors, &mut nodes);
     reading(out, r, &tokens, &errors, &nodes)
 }

@@ -1,31 +1,31 @@
--- What becomes of the parser that a host keeps. A word that is only carried along is named by `fresh` and `changed` alone.
+-- What becomes of the parser that a host keeps. A word of the host's, which is only carried along, is named by `changed` alone.
 use Prim.Native.Nat.{ℕ}
 use Rattle.records.specs.Outcomes as outcomes
 use Rattle.parser.specs.declared.State.{State}
-use Rattle.parser.specs.Tables.{withErrors}
+use Rattle.parser.specs.Tables.{withErrors, freshState}
 use Rattle.parser.specs.Grammar.{firstOf}
 use Rattle.host.specs.declared.Parser.{Parser}
-
--- before the first statement, with what was lexed
-abbrev pub fresh : ℕ → ℕ → Parser
-fresh tokens errors = record { current = 0; loops = 0; tokens = tokens; errors = errors; nodes = 0; first = 0; last = 0; ended = 0; outcome = outcomes.goesOn }
 
 -- the state in which it reads
 abbrev pub stateOf : Parser → State
 stateOf p = record { current = p .current; errors = p .errors; nodes = p .nodes; loops = p .loops }
 
--- with that state, first and last statement and mark
-abbrev pub changed : Parser → State → ℕ → ℕ → ℕ → ℕ → Parser
-changed p q first last ended outcome = record { current = q .current; loops = q .loops; tokens = p .tokens; errors = q .errors; nodes = q .nodes; first = first; last = last; ended = ended; outcome = outcome }
+-- with so many tokens, that state, first and last statement and mark
+abbrev pub changed : Parser → ℕ → State → ℕ → ℕ → ℕ → ℕ → Parser
+changed p tokens q first last ended outcome = record { way = p .way; current = q .current; loops = q .loops; tokens = tokens; errors = q .errors; nodes = q .nodes; first = first; last = last; ended = ended; outcome = outcome }
+
+-- before the first statement, with what was lexed
+abbrev pub fresh : Parser → ℕ → ℕ → Parser
+fresh p tokens errors = changed p tokens (freshState errors) 0 0 0 outcomes.goesOn
 
 -- with another mark: whether the final answer is given, and the outcome
 abbrev pub markedAs : ℕ → ℕ → Parser → Parser
-markedAs ended outcome p = changed p (stateOf p) (p .first) (p .last) ended outcome
+markedAs ended outcome p = changed p (p .tokens) (stateOf p) (p .first) (p .last) ended outcome
 
 -- behind a statement n, in the state q
 abbrev pub behind : Parser → State → ℕ → Parser
-behind p q n = changed p q (firstOf (p .first) n) n (p .ended) (p .outcome)
+behind p q n = changed p (p .tokens) q (firstOf (p .first) n) n (p .ended) (p .outcome)
 
 -- at a statement that stopped the reading: none of its nodes is kept, but its errors are
 abbrev pub stoppedAt : Parser → ℕ → Parser
-stoppedAt p errors = changed p (withErrors (stateOf p) errors) (p .first) (p .last) (p .ended) (p .outcome)
+stoppedAt p errors = changed p (p .tokens) (withErrors (stateOf p) errors) (p .first) (p .last) (p .ended) (p .outcome)

@@ -9,9 +9,11 @@ use records::Outcome;
 use token::Token;
 
 // What the host keeps between two calls: the cursor, the open loops, how many tokens, errors and nodes stand in the tables, the first and the last
-// statement, and the last outcome; `ended` is 0 until that is the final answer. A parser of zeros is one that nothing was begun with: a read answers 18.
+// statement, and the last outcome; `ended` is 0 until that is the final answer. The way is the host's: it is set before `begin`, and no call changes it. A
+// parser of zeros is one that nothing was begun with: a read answers 18.
 #[repr(C)]
 pub struct Parser {
+    pub way: u32,
     pub current: u32,
     pub loops: u32,
     pub tokens: u32,
@@ -23,23 +25,20 @@ pub struct Parser {
     pub outcome: u32,
 }
 
-// A word that is only carried along is named by `fresh` alone.
+// A word of the host's is only carried along, and named by no function here.
 impl Parser {
     // Before the first statement, with what was lexed.
-    pub fn fresh(tokens: u32, errors: u32) -> Self
-        ensures { λ r. ⌜ r ≡ fresh tokens errors ⌝ }
+    pub fn fresh(mut self, tokens: u32, errors: u32) -> Self
+        ensures { λ r. ⌜ r ≡ fresh self tokens errors ⌝ }
     {
-        Parser {
-            current: 0,
-            loops: 0,
-            tokens,
-            errors,
-            nodes: 0,
-            first: 0,
-            last: 0,
-            ended: 0,
-            outcome: Outcome::GOES_ON,
-        }
+        self.current = 0;
+        self.loops = 0;
+        self.tokens = tokens;
+        self.errors = errors;
+        self.nodes = 0;
+        self.first = 0;
+        self.last = 0;
+        self.going_on()
     }
 
     // Whether the final answer is still to be given.

@@ -7,7 +7,7 @@ fn main() {
 }
 
 // The scripts are a.gr, b.gr and so on.
-const SCRIPTS: u8 = 21;
+const SCRIPTS: u8 = 22;
 
 fn script(i: u8) {
     let path = [letter(i), b'.', b'g', b'r'];

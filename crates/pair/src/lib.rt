@@ -4,7 +4,7 @@ ghost use Rattle.steps.specs.Steps.{begun, nextOf};
 use entry::Answer;
 use host::Parser;
 
-// `begin` for Rust and C: lexes the source, and leaves a parser that reads its statements.
+// `begin` for Rust and C: lexes the source, and leaves a parser that reads its statements. Of the parser that is lent only the way counts.
 #[no_mangle]
 pub extern "C" fn kettleplume_begin(
     parser: &mut Parser,
@@ -13,11 +13,11 @@ pub extern "C" fn kettleplume_begin(
     errors: &mut [u32],
     nodes: &mut [u32],
 ) -> Answer
-    ensures { λ r. ⌜ (r ≡ begun (now (source .entry)) (now (tokens .entry)) (now (errors .entry)) (now (nodes .entry)) .stepped .answer)
-        × (now (parser .exit) ≡ begun (now (source .entry)) (now (tokens .entry)) (now (errors .entry)) (now (nodes .entry)) .stepped .parser)
-        × (now (tokens .exit) ≡ begun (now (source .entry)) (now (tokens .entry)) (now (errors .entry)) (now (nodes .entry)) .tokens)
-        × (now (errors .exit) ≡ begun (now (source .entry)) (now (tokens .entry)) (now (errors .entry)) (now (nodes .entry)) .errors)
-        × (now (nodes .exit) ≡ begun (now (source .entry)) (now (tokens .entry)) (now (errors .entry)) (now (nodes .entry)) .nodes) ⌝ }
+    ensures { λ r. ⌜ (r ≡ begun (now (source .entry)) (now (tokens .entry)) (now (errors .entry)) (now (nodes .entry)) (now (parser .entry)) .stepped .answer)
+        × (now (parser .exit) ≡ begun (now (source .entry)) (now (tokens .entry)) (now (errors .entry)) (now (nodes .entry)) (now (parser .entry)) .stepped .parser)
+        × (now (tokens .exit) ≡ begun (now (source .entry)) (now (tokens .entry)) (now (errors .entry)) (now (nodes .entry)) (now (parser .entry)) .tokens)
+        × (now (errors .exit) ≡ begun (now (source .entry)) (now (tokens .entry)) (now (errors .entry)) (now (nodes .entry)) (now (parser .entry)) .errors)
+        × (now (nodes .exit) ≡ begun (now (source .entry)) (now (tokens .entry)) (now (errors .entry)) (now (nodes .entry)) (now (parser .entry)) .nodes) ⌝ }
 {
     let p = *parser;
     let s = steps::start(source, tokens, errors, nodes, p);

@@ -9,12 +9,18 @@ use entry::Answer;
 use lexer::Scanned;
 use records::Outcome;
 
-// Reads a source into the three tables. Where it is not parsed no node is kept.
-pub fn read(source: &[u8], tokens: &mut [u32], errors: &mut [u32], nodes: &mut [u32]) -> Answer
-    ensures { λ r. ⌜ Answers (reading (now (source .entry)) (now (tokens .entry)) (now (errors .entry)) (now (nodes .entry)))
+// Reads a source into the three tables, on the way that is asked for. Where it is not parsed no node is kept.
+pub fn read(
+    way: u32,
+    source: &[u8],
+    tokens: &mut [u32],
+    errors: &mut [u32],
+    nodes: &mut [u32],
+) -> Answer
+    ensures { λ r. ⌜ Answers (reading way (now (source .entry)) (now (tokens .entry)) (now (errors .entry)) (now (nodes .entry)))
         r (now (tokens .exit)) (now (errors .exit)) (now (nodes .exit)) ⌝ }
 {
-    let d = entry::enter(source, tokens, errors, nodes);
+    let d = entry::enter(way, source, tokens, errors, nodes);
     if d.outcome == Outcome::ENDED {
         let p = statements::parse(tokens, errors, nodes, d.errors);
         return Answer {
@@ -37,15 +43,16 @@ pub fn read(source: &[u8], tokens: &mut [u32], errors: &mut [u32], nodes: &mut [
 // The same for Rust and C.
 #[no_mangle]
 pub extern "C" fn kettleplume_read(
+    way: u32,
     source: &[u8],
     tokens: &mut [u32],
     errors: &mut [u32],
     nodes: &mut [u32],
 ) -> Answer
-    ensures { λ r. ⌜ Answers (reading (now (source .entry)) (now (tokens .entry)) (now (errors .entry)) (now (nodes .entry)))
+    ensures { λ r. ⌜ Answers (reading way (now (source .entry)) (now (tokens .entry)) (now (errors .entry)) (now (nodes .entry)))
         r (now (tokens .exit)) (now (errors .exit)) (now (nodes .exit)) ⌝ }
 {
-    read(source, tokens, errors, nodes)
+    read(way, source, tokens, errors, nodes)
 }
 
 // Lexes a source into a token table and an error table.

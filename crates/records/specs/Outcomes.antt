@@ -45,6 +45,10 @@ notAString = 9
 abbrev pub noBufferRoom : ℕ
 noBufferRoom = 10
 
+-- the new way: lexing reached its end and recorded an error, so nothing is parsed
+abbrev pub notParsed : ℕ
+notParsed = 11
+
 -- the pair: what the parser holds doesn't fit what is lent, and nothing changed
 abbrev pub doesNotFit : ℕ
 doesNotFit = 18

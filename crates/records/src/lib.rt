@@ -144,6 +144,9 @@ impl Outcome {
     // Decoding: the buffer is too short.
     pub const NO_BUFFER_ROOM: u32 = 10;
 
+    // The new way: lexing recorded an error, so nothing is parsed.
+    pub const NOT_PARSED: u32 = 11;
+
     // The pair: what the parser holds doesn't fit what is lent.
     pub const DOES_NOT_FIT: u32 = 18;
 

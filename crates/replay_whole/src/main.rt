@@ -16,8 +16,8 @@ fn buffer() -> [u8; 262144]
     [0; 262144]
 }
 
-// A vector has a line of four numbers with five digits each: the script's length in bytes, the sizes of the token, error and node table in
-// words. The script follows, and a newline.
+// A vector has a line of five numbers with five digits each: the script's length in bytes, the way, the sizes of the token, error and node
+// table in words. The script follows, and a newline.
 fn vectors(s: &[u8]) {
     let mut at = 0;
     while at < s.len() {
@@ -35,16 +35,17 @@ fn vector(s: &[u8], at: usize) -> usize
     ensures { λ r. ⌜ at ≤ r ⌝ }
 {
     if at < s.len() {
-        if 24 <= s.len() - at {
-            let head = at + 24;
+        if 30 <= s.len() - at {
+            let head = at + 30;
             let n = size(s, at);
             if n <= s.len() - head {
                 let end = head + n;
                 tables(
+                    size(s, at + 6) as u32,
                     &s[head..end],
-                    size(s, at + 6),
                     size(s, at + 12),
                     size(s, at + 18),
+                    size(s, at + 24),
                 );
                 return end;
             }
@@ -55,7 +56,9 @@ fn vector(s: &[u8], at: usize) -> usize
 }
 
 // The number whose five digits start at a place of the input.
-fn size(s: &[u8], at: usize) -> usize {
+fn size(s: &[u8], at: usize) -> usize
+    ensures { λ r. ⌜ r ≤ 99999 ⌝ }
+{
     if 262144 < at {
         return 0;
     }
@@ -79,14 +82,15 @@ fn value(c: u8) -> usize
 }
 
 // A table has at most 4,096 words, each 7 before.
-fn tables(source: &[u8], t: usize, e: usize, n: usize) {
+fn tables(way: u32, source: &[u8], t: usize, e: usize, n: usize) {
     let mut tokens = [7u32; 4096];
     let mut errors = [7u32; 4096];
     let mut nodes = [7u32; 4096];
-    parts(source, &mut tokens, t, &mut errors, e, &mut nodes, n);
+    parts(way, source, &mut tokens, t, &mut errors, e, &mut nodes, n);
 }
 
 fn parts(
+    way: u32,
     source: &[u8],
     tokens: &mut [u32],
     t: usize,
@@ -99,6 +103,7 @@ fn parts(
         if e <= errors.len() {
             if n <= nodes.len() {
                 read(
+                    way,
                     source,
                     &mut tokens[0..t],
                     &mut errors[0..e],
@@ -112,8 +117,8 @@ fn parts(
 }
 
 // The answer in its order, then every word of each table.
-fn read(source: &[u8], tokens: &mut [u32], errors: &mut [u32], nodes: &mut [u32]) {
-    let r = reader::read(source, tokens, errors, nodes);
+fn read(way: u32, source: &[u8], tokens: &mut [u32], errors: &mut [u32], nodes: &mut [u32]) {
+    let r = reader::read(way, source, tokens, errors, nodes);
     io::write_all(1, b"o");
     word(r.outcome);
     word(r.tokens);

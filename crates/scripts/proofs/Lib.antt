@@ -4,4 +4,5 @@ pub mod Limits
 pub mod Oracle
 pub mod Parameters
 pub mod Stars
+pub mod Ways
 pub mod Worked

@@ -64,22 +64,22 @@ module _ (T : List ℕ) (p : Parser) (E N : List ℕ) (k : ℕ) (is : k ≡ kind
     one-linked n s m h N″ l = (λ i. restOf T (h i) E′ (l i)) ∙ sym (one-came ∙ ap (λ (g : Got). afterOne T p (reply q g E′ N′)) s)
 
 -- ---- after lexing
-module _ (s t e n T E N : List ℕ) (d : Scanned) (l : Enters (entered s t e n) d T E N) where
+module _ (s t e n : List ℕ) (p : Parser) (T E N : List ℕ) (d : Scanned) (l : Enters (entered (p .way) s t e n) d T E N) where
   -- by the test
   begun-by : (b : Bool) → eqb (d .outcome) 0 ≡ b
-      → pickCall b (λ _. restOf T (fresh (d .tokens) (d .errors)) E N) (λ _. left (leaving (markedAs 1 (d .outcome) (fresh (d .tokens) (d .errors)))) T E N) ≡ begun s t e n
+      → pickCall b (λ _. restOf T (fresh p (d .tokens) (d .errors)) E N) (λ _. left (leaving (markedAs 1 (d .outcome) (fresh p (d .tokens) (d .errors)))) T E N) ≡ begun s t e n p
   unfolding begun
   begun-by b h =
-      ap (λ (x : Bool). pickCall x (λ _. restOf T (fresh (d .tokens) (d .errors)) E N) λ _. left (leaving (markedAs 1 (d .outcome) (fresh (d .tokens) (d .errors)))) T E N) (sym h)
-      ∙ ap begunAfter (stands-as (entered s t e n) d T E N l)
+      ap (λ (x : Bool). pickCall x (λ _. restOf T (fresh p (d .tokens) (d .errors)) E N) λ _. left (leaving (markedAs 1 (d .outcome) (fresh p (d .tokens) (d .errors)))) T E N) (sym h)
+      ∙ ap (begunAfter p) (stands-as (entered (p .way) s t e n) d T E N l)
 
-  module _ (p : Parser) (new : p ≡ fresh (d .tokens) (d .errors)) where
+  module _ (q : Parser) (new : q ≡ fresh p (d .tokens) (d .errors)) where
     -- what was lexed is read
-    pub begun-reads : d .outcome ≡ 0 → restOf T p E N ≡ begun s t e n
-    begun-reads z = ap (λ (p : Parser). restOf T p E N) new ∙ begun-by true (eq-eqb (d .outcome) 0 z)
+    pub begun-reads : d .outcome ≡ 0 → restOf T q E N ≡ begun s t e n p
+    begun-reads z = ap (λ (q : Parser). restOf T q E N) new ∙ begun-by true (eq-eqb (d .outcome) 0 z)
 
     -- its outcome is the final answer
-    pub begun-ends : (d .outcome ≡ 0 → ⊥) → (m : Stepped) → m ≡ leaving (markedAs 1 (d .outcome) p) → left m T E N ≡ begun s t e n
+    pub begun-ends : (d .outcome ≡ 0 → ⊥) → (m : Stepped) → m ≡ leaving (markedAs 1 (d .outcome) q) → left m T E N ≡ begun s t e n p
     begun-ends z m h = (λ i. left (h i) T E N) ∙ (λ i. left (leaving (markedAs 1 (d .outcome) (new i))) T E N) ∙ begun-by false (ne-eqb (d .outcome) 0 z)
 
 -- ---- read

@@ -51,14 +51,14 @@ restOf T p E N = pickCall (eqb (kindAt T (p .current)) EOF) (λ _. final outcome
 
 -- ---- begin
 -- what stands when lexing is over is read, a statement at a time; or its outcome is the final answer
-abbrev pub begunAfter : Entered → Called
-begunAfter d =
-    pickCall (eqb (d .outcome) outcomes.ended) (λ _. restOf (d .tokens) (fresh (d .tokenCount) (d .errorCount)) (d .errors) (d .nodes)) λ _.
-    left (leaving (markedAs 1 (d .outcome) (fresh (d .tokenCount) (d .errorCount)))) (d .tokens) (d .errors) (d .nodes)
+abbrev pub begunAfter : Parser → Entered → Called
+begunAfter p d =
+    pickCall (eqb (d .outcome) outcomes.ended) (λ _. restOf (d .tokens) (fresh p (d .tokenCount) (d .errorCount)) (d .errors) (d .nodes)) λ _.
+    left (leaving (markedAs 1 (d .outcome) (fresh p (d .tokenCount) (d .errorCount)))) (d .tokens) (d .errors) (d .nodes)
 
--- `begin`, of any source into tables t, e and n: what the parser was does not matter
-unfoldable pub begun : List ℕ → List ℕ → List ℕ → List ℕ → Called
-begun s t e n = begunAfter (entered s t e n)
+-- `begin`, of any source into tables t, e and n, on the parser's way: what else the parser was does not matter
+unfoldable pub begun : List ℕ → List ℕ → List ℕ → List ℕ → Parser → Called
+begun s t e n p = begunAfter p (entered (p .way) s t e n)
 
 -- ---- read
 -- 18, with counts and first statement 0, and nothing changed

@@ -85,26 +85,26 @@ fn one(tokens: &[u32], errors: &mut [u32], nodes: &mut [u32], p: Parser) -> Step
     }
 }
 
-// The core of `begin`: the source is lexed, whatever the parser was.
+// The core of `begin`: the source is lexed, and read on the parser's way, whatever else the parser was.
 pub fn start(
     source: &[u8],
     tokens: &mut [u32],
     errors: &mut [u32],
     nodes: &mut [u32],
-    _p: Parser,
+    p: Parser,
 ) -> Stepped
-    ensures { λ r. ⌜ (r ≡ begun (now (source .entry)) (now (tokens .entry)) (now (errors .entry)) (now (nodes .entry)) .stepped)
-        × (now (tokens .exit) ≡ begun (now (source .entry)) (now (tokens .entry)) (now (errors .entry)) (now (nodes .entry)) .tokens)
-        × (now (errors .exit) ≡ begun (now (source .entry)) (now (tokens .entry)) (now (errors .entry)) (now (nodes .entry)) .errors)
-        × (now (nodes .exit) ≡ begun (now (source .entry)) (now (tokens .entry)) (now (errors .entry)) (now (nodes .entry)) .nodes) ⌝ }
+    ensures { λ r. ⌜ (r ≡ begun (now (source .entry)) (now (tokens .entry)) (now (errors .entry)) (now (nodes .entry)) p .stepped)
+        × (now (tokens .exit) ≡ begun (now (source .entry)) (now (tokens .entry)) (now (errors .entry)) (now (nodes .entry)) p .tokens)
+        × (now (errors .exit) ≡ begun (now (source .entry)) (now (tokens .entry)) (now (errors .entry)) (now (nodes .entry)) p .errors)
+        × (now (nodes .exit) ≡ begun (now (source .entry)) (now (tokens .entry)) (now (errors .entry)) (now (nodes .entry)) p .nodes) ⌝ }
 {
-    let d = entry::enter(source, tokens, errors, nodes);
-    let p = Parser::fresh(d.tokens, d.errors);
+    let d = entry::enter(p.way, source, tokens, errors, nodes);
+    let q = p.fresh(d.tokens, d.errors);
     if d.outcome == Outcome::ENDED {
-        return rest(tokens, nodes, p);
+        return rest(tokens, nodes, q);
     }
-    let q = p.closed(d.outcome);
-    leave(q)
+    let ended = q.closed(d.outcome);
+    leave(ended)
 }
 
 // The core of `read`: the final answer once more, 18, or one statement. The source is not looked at again.

@@ -23,7 +23,9 @@ use Rattle.lexing.proofs.Kept.{lexed-keeps}
 use Rattle.lexing.proofs.Answer.{token-count, tokens-within, errors-within}
 use Rattle.parser.specs.Tokens.{kindAt}
 use Rattle.entry.specs.Entry.{Entered, over, entered}
+use Rattle.entry.proofs.Ways.{on-ended}
 use Rattle.whole.proofs.Sizes.{over-keeps}
+use Rattle.host.specs.declared.Parser.{Parser}
 use Rattle.host.specs.Fits.{noEof, onlyEof}
 use Rattle.host.specs.Kept.{markedAs, fresh}
 use Rattle.steps.specs.Steps.{Called, left, leaving, final, pickCall, restOf, begun, nexts}
@@ -88,9 +90,10 @@ lexed-only n r t z (whole ws m d o rows le eof is count) h =
 lexed-only n r t z (short ne rows le) h = absurd (ne z)
 
 -- the parser that begin leaves where the end was reached
-fresh-fit : (s t e n : List ℕ) → let d = entered s t e n in d .outcome ≡ 0 → Fit (d .tokens) (d .errors) (d .nodes) (fresh (d .tokenCount) (d .errorCount))
-fresh-fit s t e n z =
+fresh-fit : (s t e n : List ℕ) (p : Parser) → let d = entered (p .way) s t e n in d .outcome ≡ 0 → Fit (d .tokens) (d .errors) (d .nodes) (fresh p (d .tokenCount) (d .errorCount))
+fresh-fit s t e n p h =
     let d = lexedOf s (room tokenWidth t) (room errorWidth e) in
+    let z : d .outcome ≡ 0 = on-ended (p .way) (d .outcome) (d .errorCount) h in
     let k = lexed-whole s (room tokenWidth t) (room errorWidth e) z in
     let a : room tokenWidth (over (d .tokens) t) ≡ room tokenWidth t = room-length tokenWidth (over (d .tokens) t) t (over-keeps (d .tokens) t (tokens-within s t (room errorWidth e))) in
     let b : room errorWidth (over (d .errors) e) ≡ room errorWidth e = room-length errorWidth (over (d .errors) e) e (over-keeps (d .errors) e (errors-within s e (room tokenWidth t))) in
@@ -101,17 +104,17 @@ fresh-fit s t e n z =
 one-not : _≡_ {A = ℕ} 1 0 → ⊥
 one-not h = omega (arith, h)
 
-begun-steady : (s t e n : List ℕ) → Steady (length s + 2) 0 (begun s t e n)
+begun-steady : (s t e n : List ℕ) (p : Parser) → Steady (length s + 2) 0 (begun s t e n p)
 unfolding begun
-begun-steady s t e n = at (eqb (d .outcome) 0) refl
+begun-steady s t e n p = at (eqb (d .outcome) 0) refl
   where
     d : Entered
-    d = entered s t e n
+    d = entered (p .way) s t e n
 
     at : (x : Bool) → eqb (d .outcome) 0 ≡ x → Steady (length s + 2) 0
-        (pickCall x (λ _. restOf (d .tokens) (fresh (d .tokenCount) (d .errorCount)) (d .errors) (d .nodes)) λ _.
-        left (leaving (markedAs 1 (d .outcome) (fresh (d .tokenCount) (d .errorCount)))) (d .tokens) (d .errors) (d .nodes))
-    at true h = rest-steady (length s + 2) 0 (d .tokens) (fresh (d .tokenCount) (d .errorCount)) (d .errors) (d .nodes) (fresh-fit s t e n (eqb-true (d .outcome) 0 h)) (token-count s (room tokenWidth t) (room errorWidth e)) (omega arith)
+        (pickCall x (λ _. restOf (d .tokens) (fresh p (d .tokenCount) (d .errorCount)) (d .errors) (d .nodes)) λ _.
+        left (leaving (markedAs 1 (d .outcome) (fresh p (d .tokenCount) (d .errorCount)))) (d .tokens) (d .errors) (d .nodes))
+    at true h = rest-steady (length s + 2) 0 (d .tokens) (fresh p (d .tokenCount) (d .errorCount)) (d .errors) (d .nodes) (fresh-fit s t e n p (eqb-true (d .outcome) 0 h)) (token-count s (room tokenWidth t) (room errorWidth e)) (omega arith)
     at false h = steady.over _ one-not
 
 -- a call that stands so gave the final answer, or answers 19
@@ -120,9 +123,9 @@ steady-answers b j _ (steady.over c z) = inl z
 steady-answers b j _ (going p T E N z o f m l) = inr o
 
 -- after begin and k reads, each over what the last call left, the final answer was given, or the call answers 19
-pub never-refused : (s t e n : List ℕ) (k : ℕ) → (nexts k (begun s t e n) .stepped .parser .ended ≡ 0 → ⊥) ⊎ (nexts k (begun s t e n) .stepped .answer .outcome ≡ 19)
-never-refused s t e n k = steady-answers (length s + 2) k (nexts k (begun s t e n)) (reads-steady (length s + 2) k (begun s t e n) (begun-steady s t e n))
+pub never-refused : (s t e n : List ℕ) (p : Parser) (k : ℕ) → (nexts k (begun s t e n p) .stepped .parser .ended ≡ 0 → ⊥) ⊎ (nexts k (begun s t e n p) .stepped .answer .outcome ≡ 19)
+never-refused s t e n p k = steady-answers (length s + 2) k (nexts k (begun s t e n p)) (reads-steady (length s + 2) k (begun s t e n p) (begun-steady s t e n p))
 
 -- a source of m bytes has its final answer after m + 2 reads
-pub final-comes : (s t e n : List ℕ) (k : ℕ) → length s + 2 ≤ k → nexts k (begun s t e n) .stepped .parser .ended ≡ 0 → ⊥
-final-comes s t e n k h = steady-ends (length s + 2) k (nexts k (begun s t e n)) h (reads-steady (length s + 2) k (begun s t e n) (begun-steady s t e n))
+pub final-comes : (s t e n : List ℕ) (p : Parser) (k : ℕ) → length s + 2 ≤ k → nexts k (begun s t e n p) .stepped .parser .ended ≡ 0 → ⊥
+final-comes s t e n p k h = steady-ends (length s + 2) k (nexts k (begun s t e n p)) h (reads-steady (length s + 2) k (begun s t e n p) (begun-steady s t e n p))

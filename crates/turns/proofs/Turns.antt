@@ -14,7 +14,8 @@ use Rattle.parser.specs.Grammar.{firstOf}
 use Rattle.parser.specs.Whole.{Parsed, ends, topLevel, statements, parsed}
 use Rattle.statements.proofs.TopLevel.{at-end, stops, goes-on, statement-past}
 use Rattle.entry.specs.declared.Answer.{Answer}
-use Rattle.whole.proofs.Outcome.{reading-outcome}
+use Rattle.whole.specs.Ways.{isFinal}
+use Rattle.whole.proofs.Ways.{reading-outcome}
 use Rattle.entry.specs.Entry.{Entered, entered}
 use Rattle.entry.specs.Reading.{Reading, refused, joined, pickReading, reading, Answers}
 use Rattle.host.specs.declared.Parser.{Parser}
@@ -98,19 +99,19 @@ next-stands R _ (done p T E N z a) = subst (Stands R) (next-again T E N p z) (do
 next-stands R _ (on r p T E N f z enough e) = next-by R T p E N f enough e z (fitsIn T E N p) refl
 
 -- after lexing, by its test
-begin-stands : (d : Entered) (x : Bool) → Stands
+begin-stands : (p : Parser) (d : Entered) (x : Bool) → Stands
     (pickReading x (λ _. joined (d .tokenCount) (d .tokens) (parsed (d .tokens) (d .errorCount) (d .errors) (d .nodes))) λ _. refused d)
-    (pickCall x (λ _. restOf (d .tokens) (fresh (d .tokenCount) (d .errorCount)) (d .errors) (d .nodes)) λ _.
-    left (leaving (markedAs 1 (d .outcome) (fresh (d .tokenCount) (d .errorCount)))) (d .tokens) (d .errors) (d .nodes))
+    (pickCall x (λ _. restOf (d .tokens) (fresh p (d .tokenCount) (d .errorCount)) (d .errors) (d .nodes)) λ _.
+    left (leaving (markedAs 1 (d .outcome) (fresh p (d .tokenCount) (d .errorCount)))) (d .tokens) (d .errors) (d .nodes))
 unfolding parsed
-begin-stands d true = rests _ (d .tokens) (fresh (d .tokenCount) (d .errorCount)) (d .errors) (d .nodes) (count (d .tokens)) (omega arith) refl
-begin-stands d false =
-    done (markedAs 1 (d .outcome) (fresh (d .tokenCount) (d .errorCount))) (d .tokens) (d .errors) (d .nodes) one-not
+begin-stands p d true = rests _ (d .tokens) (fresh p (d .tokenCount) (d .errorCount)) (d .errors) (d .nodes) (count (d .tokens)) (omega arith) refl
+begin-stands p d false =
+    done (markedAs 1 (d .outcome) (fresh p (d .tokenCount) (d .errorCount))) (d .tokens) (d .errors) (d .nodes) one-not
     (record { outcome-is = refl; tokens-are = refl; errors-are = refl; nodes-are = refl; first-is = refl; token-table = refl; error-table = refl; node-table = refl })
 
-begun-stands : (s t e n : List ℕ) → Stands (reading s t e n) (begun s t e n)
+begun-stands : (s t e n : List ℕ) (p : Parser) → Stands (reading (p .way) s t e n) (begun s t e n p)
 unfolding begun reading
-begun-stands s t e n = begin-stands (entered s t e n) (eqb (entered s t e n .outcome) 0)
+begun-stands s t e n p = begin-stands p (entered (p .way) s t e n) (eqb (entered (p .way) s t e n .outcome) 0)
 
 reads-stand : (R : Reading) (k : ℕ) (c : Called) → Stands R c → Stands R (nexts k c)
 unfolding nexts
@@ -126,19 +127,23 @@ final-again : (R : Reading) (c : Called) → Stands R c → (c .stepped .parser 
 final-again R _ (done p T E N z a) h = sym (next-again T E N p z)
 final-again R _ (on r p T E N f z enough e) h = elim (h z) [ ]
 
-module _ (s t e n : List ℕ) (k : ℕ) where
-  -- begin and k reads, each over what the last call left
+module _ (s t e n : List ℕ) (p : Parser) (k : ℕ) where
+  -- begin with any parser and k reads, each over what the last call left
   abbrev called : Called
-  called = nexts k (begun s t e n)
+  called = nexts k (begun s t e n p)
+
+  -- the whole reading on that parser's way
+  abbrev whole : Reading
+  whole = reading (p .way) s t e n
 
   -- where they give the final answer, it and the tables are what the whole reading yields
-  pub yields-whole : (called .stepped .parser .ended ≡ 0 → ⊥) → Answers (reading s t e n) (called .stepped .answer) (called .tokens) (called .errors) (called .nodes)
-  yields-whole = final-answers (reading s t e n) called (reads-stand (reading s t e n) k (begun s t e n) (begun-stands s t e n))
+  pub yields-whole : (called .stepped .parser .ended ≡ 0 → ⊥) → Answers whole (called .stepped .answer) (called .tokens) (called .errors) (called .nodes)
+  yields-whole = final-answers whole called (reads-stand whole k (begun s t e n p) (begun-stands s t e n p))
 
   -- a read after that returns the same and changes nothing
   pub yields-again : (called .stepped .parser .ended ≡ 0 → ⊥) → next called ≡ called
-  yields-again = final-again (reading s t e n) called (reads-stand (reading s t e n) k (begun s t e n) (begun-stands s t e n))
+  yields-again = final-again whole called (reads-stand whole k (begun s t e n p) (begun-stands s t e n p))
 
-  -- and the final answer is one of 0 to 8
-  pub final-number : (called .stepped .parser .ended ≡ 0 → ⊥) → called .stepped .answer .outcome ≤ 8
-  final-number z = let a = yields-whole z .outcome-is in let b = reading-outcome s t e n in omega (arith, a, b)
+  -- and the final answer is one of 0 to 8, or 11
+  pub final-number : (called .stepped .parser .ended ≡ 0 → ⊥) → isFinal (called .stepped .answer .outcome) ≡ true
+  final-number z = ap isFinal (yields-whole z .outcome-is) ∙ reading-outcome s t e n (p .way)

@@ -1,6 +1,7 @@
 pub mod Sizes
 pub mod Rooms
 pub mod Outcome
+pub mod Ways
 pub mod Places
 pub mod Begins
 pub mod One

@@ -1,4 +1,4 @@
--- A reading ends with one of document 01's outcomes 0 to 8. Assumes nothing.
+-- A reading on the old way ends with one of document 01's outcomes 0 to 8. Assumes nothing.
 use mathlib.Core.Path.{_≡_, refl}
 use mathlib.Core.Bool.{Bool, true, false, not, _&&_, _||_}
 use mathlib.Core.List.{List, [], _∷_}
@@ -16,6 +16,7 @@ use Rattle.lexer.specs.Lex.{State, Result, Onward, go, stop, pickOnward, kept, 
 use Rattle.parser.specs.Whole.{parsed}
 use Rattle.parsing.specs.Ahead.{isOutcome}
 use Rattle.parsing.proofs.Ahead.{parsed-outcome}
+use Rattle.entry.specs.Ways.{goOn}
 use Rattle.entry.specs.Entry.{over, nodesAfter, enteredAfter}
 use Rattle.entry.specs.Reading.{refused, joined, pickReading, readAfter, reading}
 
@@ -79,9 +80,9 @@ parsed-low o = at (eqb o 0) refl (eqb o 1) refl (eqb o 6) refl (eqb o 7) refl (e
     at false p false q false r false s false u h = let z : _≡_ {A = ℕ} 0 1 = cc in absurd (omega arith)
 
 -- of any source into any tables
-pub reading-outcome : (s t e n : List ℕ) → reading s t e n .outcome ≤ 8
+pub old-outcome : (s t e n : List ℕ) → reading goOn s t e n .outcome ≤ 8
 unfolding reading
-reading-outcome s t e n = after (lexedOf s (room tokenWidth t) (room errorWidth e)) (lexed-low s (room tokenWidth t) (room errorWidth e))
+old-outcome s t e n = after (lexedOf s (room tokenWidth t) (room errorWidth e)) (lexed-low s (room tokenWidth t) (room errorWidth e))
   where
     after : (d : Result) → d .outcome ≤ 8 → readAfter (enteredAfter d t e n) .outcome ≤ 8
     after d l = at (eqb (d .outcome) 0)

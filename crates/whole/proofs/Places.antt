@@ -25,11 +25,12 @@ use Rattle.parser.specs.Tokens.{startAt}
 use Rattle.parser.specs.Whole.{parsed}
 use Rattle.parsing.proofs.Frame.{parsed-errors-kept}
 use Rattle.parsing.proofs.Places.{parsed-about}
+use Rattle.entry.specs.Ways.{onWay}
 use Rattle.entry.specs.Entry.{over, nodesAfter, enteredAfter}
 use Rattle.entry.specs.Reading.{Reading, refused, joined, pickReading, readAfter, reading}
 use Rattle.whole.specs.Places.{Place, lexers, parsers}
 use Rattle.whole.proofs.Rooms.{lexed-rooms}
-use Rattle.whole.proofs.Sizes.{Well, well, over-keeps, over-agree}
+use Rattle.whole.proofs.Sizes.{Well, well-on, over-keeps, over-agree}
 
 -- ---- what is lexed
 -- a token that starts within the source, or at its end
@@ -80,9 +81,10 @@ start-inside n m ws t rows i h =
     (lt-or-le i (room tokenWidth (over ws t)))
 
 -- ---- what a lexing came to is parsed, or is the answer
-module _ (s t e n : List ℕ) where
+module _ (way : ℕ) (s t e n : List ℕ) where
+  -- what a lexing comes to on the way
   abbrev d : Result
-  d = lexedOf s (room tokenWidth t) (room errorWidth e)
+  d = onWay way (lexedOf s (room tokenWidth t) (room errorWidth e))
 
   abbrev T : List ℕ
   T = over (d .tokens) t
@@ -94,9 +96,9 @@ module _ (s t e n : List ℕ) where
   N = nodesAfter (d .outcome) n
 
   w : Well d
-  w = well s (room tokenWidth t) (room errorWidth e)
+  w = well-on way s (room tokenWidth t) (room errorWidth e)
 
-  i : Inside (length s) d
+  i : Inside (length s) (lexedOf s (room tokenWidth t) (room errorWidth e))
   i = inside s (room tokenWidth t) (room errorWidth e)
 
   -- an error of lexing, in any error table that keeps those
@@ -148,13 +150,13 @@ module _ (s t e n : List ℕ) where
       at false o k h = lexing-place (r false) k h (lexing-room k h) λ j c. refl
 
 -- every error that a reading keeps has its place
-pub reading-places : (s t e n : List ℕ) (k : ℕ) → k < reading s t e n .errorCount → Place (length s) (reading s t e n) k
+pub reading-places : (way : ℕ) (s t e n : List ℕ) (k : ℕ) → k < reading way s t e n .errorCount → Place (length s) (reading way s t e n) k
 unfolding reading
-reading-places s t e n k h = place s t e n k h
+reading-places way s t e n k h = place way s t e n k h
 
 -- so that its pos is at most the source's length
-pub reading-inside : (s t e n : List ℕ) (k : ℕ) → k < reading s t e n .errorCount → field errorWidth 2 (reading s t e n .errors) k ≤ length s
-reading-inside s t e n k h = of (reading s t e n) (reading-places s t e n k h)
+pub reading-inside : (way : ℕ) (s t e n : List ℕ) (k : ℕ) → k < reading way s t e n .errorCount → field errorWidth 2 (reading way s t e n .errors) k ≤ length s
+reading-inside way s t e n k h = of (reading way s t e n) (reading-places way s t e n k h)
   where
     of : (r : Reading) → Place (length s) r k → field errorWidth 2 (r .errors) k ≤ length s
     of r (lexers x) = let b = x .inside in omega arith

@@ -14,6 +14,7 @@ use Rattle.lexing.proofs.Kept.{lexed-keeps}
 use Rattle.lexing.proofs.Answer.{errors-within}
 use Rattle.parser.specs.Whole.{parsed}
 use Rattle.parsing.proofs.Frame.{parsed-errors-kept, parsed-nodes-within}
+use Rattle.entry.specs.Ways.{onWay}
 use Rattle.entry.specs.Entry.{over, nodesAfter, enteredAfter}
 use Rattle.entry.specs.Reading.{refused, joined, pickReading, readAfter, reading}
 use Rattle.whole.specs.Sizes.{Within}
@@ -56,11 +57,11 @@ module _ (d : Result) (t e n : List ℕ) (ht : d .tokenCount ≤ room tokenWidth
       at false = record { tokens-fit = ht; errors-fit = he; nodes-fit = omega arith }
 
 -- the counts of a reading keep to the rooms
-pub reading-rooms : (s t e n : List ℕ) → Within t e n (reading s t e n)
+pub reading-rooms : (way : ℕ) (s t e n : List ℕ) → Within t e n (reading way s t e n)
 unfolding reading
-reading-rooms s t e n =
+reading-rooms way s t e n =
     let a = room tokenWidth t in
     let b = room errorWidth e in
     let d = lexedOf s a b in
     let r = lexed-rooms s a b in
-    after-rooms d t e n (r .0) (r .1) (over-keeps (d .errors) e (errors-within s e a))
+    after-rooms (onWay way d) t e n (r .0) (r .1) (over-keeps (d .errors) e (errors-within s e a))

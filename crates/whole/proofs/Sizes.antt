@@ -29,8 +29,10 @@ use Rattle.parsing.specs.Ahead.{Agree, isOutcome}
 use Rattle.parsing.proofs.Sizes.{SameParsed, parsed-sizes}
 use Rattle.parsing.proofs.Frame.{parsed-errors-kept, parsed-nodes-long}
 use Rattle.parsing.proofs.Ahead.{parsed-tokens, parsed-outcome}
+use Rattle.entry.specs.Ways.{onWay}
 use Rattle.entry.specs.Entry.{over, unread, nodesAfter, enteredAfter}
 use Rattle.entry.specs.Reading.{refused, joined, pickReading, readAfter, reading}
+use Rattle.entry.proofs.Ways.{on-ended, on-unread, on-read}
 use Rattle.whole.specs.Sizes.{SameReading, Rest}
 
 true-false : {A : Type 0} → true ≡ false → A
@@ -95,7 +97,7 @@ well-lexed n r u e (short ne rows le) =
 well-refusal : (o : ℕ) → (o ≡ 0 → ⊥) → Well (refusal o)
 well-refusal o h = record { tokens-long = refl; errors-long = refl; eof = λ z. absurd (h z); nothing = λ z. (refl, refl) }
 
-pub well : (s : List ℕ) (a b : ℕ) → Well (lexedOf s a b)
+well : (s : List ℕ) (a b : ℕ) → Well (lexedOf s a b)
 unfolding lexedOf lexed
 well s a b = at (ltb 65535 (length s)) (isText s)
   where
@@ -106,6 +108,18 @@ well s a b = at (ltb 65535 (length s)) (isText s)
         let k = lexed-keeps s a b in
         let r = lexed s a b in
         well-lexed (length s) r (emit-read a b (items s 0) fresh) (rows-length errorWords (Placed (length s)) errorWidth (λ d. refl) (r .errors) (r .errorCount) (k .errors)) (k .ending)
+
+-- and so on either way
+pub well-on : (way : ℕ) (s : List ℕ) (a b : ℕ) → Well (onWay way (lexedOf s a b))
+well-on way s a b =
+    let r = lexedOf s a b in
+    let w = well s a b in
+    record {
+      tokens-long = w .tokens-long;
+      errors-long = w .errors-long;
+      eof = λ z. w .eof (on-ended way (r .outcome) (r .errorCount) z);
+      nothing = λ u. w .nothing (on-unread way (r .outcome) (r .errorCount) u);
+    }
 
 -- ---- a table whose front is rewritten
 over-long : (ws t t′ : List ℕ) → length t ≡ length t′ → length (over ws t) ≡ length (over ws t′)
@@ -210,14 +224,14 @@ module _ (d : Result) (w : Well d) (t e n t′ e′ n′ : List ℕ) (tl : lengt
             nodes = λ u. after-zero (d .outcome) n p u ∙ zeroed-sizes n n′ nl ∙ sym (after-zero (d .outcome) n′ p u);
           }
 
--- two readings of one source into tables of the same sizes give the same answer and keep the same words
-pub reading-sizes : (s t e n t′ e′ n′ : List ℕ) → length t ≡ length t′ → length e ≡ length e′ → length n ≡ length n′ → SameReading (reading s t e n) (reading s t′ e′ n′)
+-- two readings of one source, on the same way, into tables of the same sizes give the same answer and keep the same words
+pub reading-sizes : (way : ℕ) (s t e n t′ e′ n′ : List ℕ) → length t ≡ length t′ → length e ≡ length e′ → length n ≡ length n′ → SameReading (reading way s t e n) (reading way s t′ e′ n′)
 unfolding reading
-reading-sizes s t e n t′ e′ n′ tl el nl =
+reading-sizes way s t e n t′ e′ n′ tl el nl =
     let d = lexedOf s (room tokenWidth t) (room errorWidth e) in
     let b : d ≡ lexedOf s (room tokenWidth t′) (room errorWidth e′) = ap (λ (k : ℕ). lexedOf s k (room errorWidth e)) (room-length tokenWidth t t′ tl) ∙ ap (lexedOf s (room tokenWidth t′)) (room-length errorWidth e e′ el) in
-    subst (λ (c : Result). SameReading (readAfter (enteredAfter d t e n)) (readAfter (enteredAfter c t′ e′ n′))) b
-    (after-sizes d (well s (room tokenWidth t) (room errorWidth e)) t e n t′ e′ n′ tl el nl)
+    subst (λ (c : Result). SameReading (readAfter (enteredAfter (onWay way d) t e n)) (readAfter (enteredAfter (onWay way c) t′ e′ n′))) b
+    (after-sizes (onWay way d) (well-on way s (room tokenWidth t) (room errorWidth e)) t e n t′ e′ n′ tl el nl)
 
 -- parsing does not end with 3 or 4
 outcome-read : {A : Type 0} (o : ℕ) → isOutcome o ≡ true → unread o ≡ true → A
@@ -270,22 +284,22 @@ module _ (d : Result) (w : Well d) (t e n : List ℕ) (tf : length (d .tokens) �
           }
 
 -- a reading leaves the tables' lengths, the words behind the kept tokens and errors, and after 3 and 4 every word
-pub reading-rest : (s t e n : List ℕ) → Rest t e n (reading s t e n)
+pub reading-rest : (way : ℕ) (s t e n : List ℕ) → Rest t e n (reading way s t e n)
 unfolding reading
-reading-rest s t e n =
+reading-rest way s t e n =
     let a = room tokenWidth t in
     let b = room errorWidth e in
-    after-rest (lexedOf s a b) (well s a b) t e n (tokens-within s t b) (errors-within s e a)
+    after-rest (onWay way (lexedOf s a b)) (well-on way s a b) t e n (tokens-within s t b) (errors-within s e a)
 
 -- a source that is text and not too long is read: the reading does not end with 3 or 4
-pub reading-read : (s t e n : List ℕ) → length s ≤ 65535 → isText s ≡ true → unread (reading s t e n .outcome) ≡ false
+pub reading-read : (way : ℕ) (s t e n : List ℕ) → length s ≤ 65535 → isText s ≡ true → unread (reading way s t e n .outcome) ≡ false
 unfolding reading lexedOf lexed
-reading-read s t e n l x =
+reading-read way s t e n l x =
     let a = room tokenWidth t in
     let b = room errorWidth e in
     let d = lexedOf s a b in
     let i : d ≡ lexed s a b = simp (le-ltb 65535 (length s) l, x) in
-    after d (ap (λ (r : Result). unread (r .outcome)) i ∙ emit-read a b (items s 0) fresh)
+    after (onWay way d) (on-read way (d .outcome) (d .errorCount) (ap (λ (r : Result). unread (r .outcome)) i ∙ emit-read a b (items s 0) fresh))
   where
     after : (d : Result) → unread (d .outcome) ≡ false → unread (readAfter (enteredAfter d t e n) .outcome) ≡ false
     after d u = at (eqb (d .outcome) 0)

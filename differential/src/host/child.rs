@@ -86,16 +86,18 @@ impl Request<'_> {
     fn put(&self, to: &mut Vec<u8>) {
         let size = |n: usize| u32::try_from(n).expect("a size fits a word");
         let words = match self {
-            Request::Source { bytes, behind } => [1, size(bytes.len()), u32::from(*behind), 0, 0],
-            Request::Lex(c) => [2, size(c.token_words), size(c.error_words), c.fill, 0],
+            Request::Source { bytes, behind } => {
+                [1, size(bytes.len()), u32::from(*behind), 0, 0, 0]
+            }
+            Request::Lex(c) => [2, size(c.token_words), size(c.error_words), c.fill, 0, 0],
             Request::Decode(c) => {
                 let (low, high) = (c.start as u32, (c.start >> 32) as u32);
-                [3, size(c.room), u32::from(c.fill), low, high]
+                [3, size(c.room), u32::from(c.fill), low, high, 0]
             }
             Request::Read(c) => {
                 let (tokens, errors) = (size(c.token_words), size(c.error_words));
                 let what = if c.pair { 5 } else { 4 };
-                [what, tokens, errors, size(c.node_words), c.fill]
+                [what, tokens, errors, size(c.node_words), c.fill, c.way]
             }
         };
         words

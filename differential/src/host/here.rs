@@ -106,10 +106,11 @@ fn read(source: &[u8], call: &ReadCall) -> ReadAnswer {
     let mut tables =
         [call.token_words, call.error_words, call.node_words].map(|size| words(size, call.fill));
     let (answer, steady, so_far) = if call.pair {
-        one_at_a_time(source, &mut tables)
+        one_at_a_time(call.way, source, &mut tables)
     } else {
         let [tokens, errors, nodes] = tables.each_mut().map(Guarded::lent);
-        (border::read(source, tokens, errors, nodes), true, vec![])
+        let answer = border::read(call.way, source, tokens, errors, nodes);
+        (answer, true, vec![])
     };
     let intact = tables.iter().all(Guarded::intact);
     let [token_table, error_table, node_table] = tables.map(Guarded::table);
@@ -129,13 +130,17 @@ fn read(source: &[u8], call: &ReadCall) -> ReadAnswer {
 }
 
 /// Begins and reads up to the final answer, then once more: the answer, whether that read gave it
-/// again and changed nothing, and what was answered on the way. A source of n bytes has its final
+/// again and changed nothing, and what was answered in between. A source of n bytes has its final
 /// answer after n + 2 reads, which is proved; a library that goes on is stopped.
 fn one_at_a_time(
+    way: u32,
     source: &[u8],
     tables: &mut [Guarded<u32>; 3],
 ) -> (border::Answer, bool, Vec<[u32; 4]>) {
-    let mut parser = Parser::default();
+    let mut parser = Parser {
+        way,
+        ..Parser::default()
+    };
     let [tokens, errors, nodes] = tables.each_mut().map(Guarded::lent);
     let mut answer = parser.begin(source, tokens, errors, nodes);
     let mut so_far = vec![];
@@ -146,5 +151,6 @@ fn one_at_a_time(
     let kept = (parser, tokens.to_vec(), errors.to_vec(), nodes.to_vec());
     let again = parser.next(source, tokens, errors, nodes);
     let now = (parser, tokens.to_vec(), errors.to_vec(), nodes.to_vec());
-    (answer, again == answer && now == kept, so_far)
+    let steady = again == answer && now == kept && parser.way == way;
+    (answer, steady, so_far)
 }

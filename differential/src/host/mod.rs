@@ -37,9 +37,10 @@ pub struct DecodeCall {
     pub fill: u8,
 }
 
-/// A reading: the tables' sizes in words, and the word they are filled with.
+/// A reading: the way, the tables' sizes in words, and the word they are filled with.
 #[derive(Debug, Clone, Copy)]
 pub struct ReadCall {
+    pub way: u32,
     /// Whether it is read one statement at a time, and not by `kettleplume_read`.
     pub pair: bool,
     pub token_words: usize,
@@ -81,7 +82,7 @@ pub struct ReadAnswer {
     /// Whether the guards round the tables are as they were.
     pub intact: bool,
     /// One statement at a time: whether a read after the final answer gave it again and changed
-    /// nothing.
+    /// nothing, and the parser has the way that was set.
     pub steady: bool,
     /// One statement at a time: tokens, errors, nodes and first statement of each answer 19.
     pub so_far: Vec<[u32; 4]>,

@@ -5,7 +5,7 @@ use std::ffi::{OsStr, OsString};
 use super::letters::escaped;
 
 pub const USAGE: &str = "\
-usage: kettleplume read [--outline] FILE...
+usage: kettleplume read [--go-on] [--outline] FILE...
        kettleplume --help | --version";
 
 pub const VERSION: &str = concat!("kettleplume ", env!("CARGO_PKG_VERSION"), "\n");
@@ -13,7 +13,7 @@ pub const VERSION: &str = concat!("kettleplume ", env!("CARGO_PKG_VERSION"), "\n
 pub const HELP: &str = "\
 Reads scripts of the language Grotsky and says what is found in them.
 
-usage: kettleplume read [--outline] FILE...
+usage: kettleplume read [--go-on] [--outline] FILE...
        kettleplume --help | --version
 
 For each script its recorded errors are printed, in the order in which they were
@@ -24,17 +24,22 @@ where something is missing, of what stands there instead. That may be the end of
 line or of the script; the mark then stands behind the last character. Columns count
 characters. Lines are the file's own; a remark tells where another one is recorded.
 
+Where words or marks are wrong, as in a string that isn't closed, the statements are
+not read: most of what would be found in them only follows from those mistakes.
+
 A line of more than 100 characters is cut around the place, with ... where something
 is left out. Characters that a terminal shouldn't be given are shown by others.
 
 A FILE that is - is standard input. After -- every word is a FILE.
 
+  --go-on    reads the statements all the same, as earlier versions of this command
+             did; what it prints is what they printed
   --outline  prints instead what a reading keeps, in document 01's form: a line o
              for the answer, then a line t for each token, e for each error and
              n for each node. The fifth number of a token is the line where it
              begins. Of several files, each begins with a line f and its name. A
              script for which the program outline has no room, up to 65,535 bytes,
-             is printed in full.
+             is printed in full. Statements are always read, as with --go-on.
   --help     prints this
   --version  prints the version
 
@@ -60,6 +65,7 @@ pub enum Task {
 
 #[derive(Debug, Default, PartialEq, Eq)]
 pub struct Asked {
+    pub go_on: bool,
     pub outline: bool,
     pub files: Vec<OsString>,
 }
@@ -83,6 +89,7 @@ fn read(words: impl Iterator<Item = OsString>) -> Result<Task, String> {
     for word in words {
         match word.to_str() {
             Some("--") if options => options = false,
+            Some("--go-on") if options => asked.go_on = true,
             Some("--outline") if options => asked.outline = true,
             Some("--help") if options => return Ok(Task::Help),
             Some("--version") if options => return Ok(Task::Version),

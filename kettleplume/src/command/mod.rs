@@ -20,7 +20,7 @@ use std::io;
 use std::process::ExitCode;
 
 use kettleplume::records::outcome;
-use kettleplume::{Records, Tables};
+use kettleplume::{Options, Records, Tables, Way};
 
 use arguments::{Asked, Task, HELP, USAGE, VERSION};
 use console::Console;
@@ -69,7 +69,7 @@ fn read(asked: &Asked) -> Status {
 
 /// Fails only where the output can't be written: a file that can't be read doesn't hold up the others.
 fn read_all(asked: &Asked, console: &mut Console) -> io::Result<Status> {
-    let mut tables = Tables::new();
+    let (mut tables, options) = (Tables::new(), options(asked));
     let mut status = Status::Clean;
     for file in &asked.files {
         let name = input::name(file);
@@ -82,11 +82,20 @@ fn read_all(asked: &Asked, console: &mut Console) -> io::Result<Status> {
                 continue;
             }
         };
-        let records = tables.read(&source);
+        let records = tables.read_as(options, &source);
         console.print(&text(asked, &name, &source, &records))?;
         status = status.max(verdict(&records));
     }
     Ok(status)
+}
+
+/// An outline is what the program `outline` prints, which goes on.
+fn options(asked: &Asked) -> Options {
+    let way = match asked.go_on || asked.outline {
+        true => Way::GoOn,
+        false => Way::Stop,
+    };
+    Options { way }
 }
 
 fn text(asked: &Asked, name: &str, source: &[u8], records: &Records) -> String {

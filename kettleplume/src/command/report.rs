@@ -99,6 +99,7 @@ fn outcome(source: &[u8], records: &Records) -> String {
     let kept = match why {
         Error::TooLong => return format!("not read: {why}"),
         Error::NoText => return format!("not read: {why}{}", first_refused(source)),
+        Error::NotParsed => return unparsed(records.errors.len()),
         Error::Stopped => {
             let which = match records.errors.len() {
                 1 => "which",
@@ -109,6 +110,15 @@ fn outcome(source: &[u8], records: &Records) -> String {
         _ => format!("{errors}, {statements} before it kept"),
     };
     format!("not read to its end: {why} ({kept})")
+}
+
+/// The reader has just seen why.
+fn unparsed(errors: usize) -> String {
+    let mistakes = match errors {
+        1 => "the mistake".to_string(),
+        _ => format!("the {errors} mistakes"),
+    };
+    format!("its statements were not read, because of {mistakes} above")
 }
 
 /// The line of the first bytes that are not UTF-8.
@@ -141,7 +151,7 @@ fn counted(count: usize, what: &str) -> String {
 #[cfg(test)]
 mod tests {
     use super::*;
-    use kettleplume::Tables;
+    use kettleplume::{Options, Tables, Way};
 
     /// Scripts of parts that are hard to show, each other than the last.
     fn hard_scripts() -> impl Iterator<Item = Vec<u8>> {
@@ -182,15 +192,18 @@ mod tests {
     #[test]
     fn every_error_is_told_and_nothing_unsafe_is_printed() {
         let mut tables = Tables::new();
-        for source in hard_scripts() {
-            let records = tables.read(&source);
+        let mut unparsed = 0;
+        for (source, way) in hard_scripts().flat_map(|s| [(s.clone(), Way::Stop), (s, Way::GoOn)]) {
+            let records = tables.read_as(Options { way }, &source);
             let report = report("s", &source, &records);
             let lines = report.lines().filter(|line| line.starts_with("s:"));
             assert_eq!(lines.count(), records.errors.len() + 1);
             let unsafe_char = |c: char| c.is_control() && c != '\n' && c != '\t';
             assert!(!report.contains(unsafe_char), "{source:?}");
             assert!(!report.contains('\u{202e}'), "{source:?}");
+            unparsed += usize::from(report.contains("its statements were not read"));
         }
+        assert!(unparsed > 300, "{unparsed}");
     }
 
     /// What stands over a mark is what stands at the place; nothing does at an end.
@@ -200,7 +213,8 @@ mod tests {
         let (mut lexers, mut parsers, mut ends) = (0, 0, 0);
         for source in hard_scripts() {
             let script = Places::new(&source);
-            for [number, _, pos] in tables.read(&source).errors {
+            let records = tables.read_as(Options { way: Way::GoOn }, &source);
+            for [number, _, pos] in records.errors {
                 let at = letters::start(&source, *pos as usize);
                 let excerpt = excerpt::marked(&script, at);
                 let (line, mark) = excerpt.split_once('\n').expect("two lines");

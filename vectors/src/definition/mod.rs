@@ -11,7 +11,7 @@ use std::fmt::Write as _;
 
 use expected::dice::Dice;
 use expected::maker::Maker;
-use expected::records::{outcome, NODE_WORDS};
+use expected::records::{outcome, way, NODE_WORDS};
 use expected::whole::{known, Known, Whole};
 use oracle::on_large_stack;
 
@@ -23,6 +23,8 @@ const FILL: u32 = 7;
 
 /// A script; a character is a byte.
 pub struct Script {
+    /// The way on which it is read.
+    pub way: u32,
     pub text: String,
     /// Where the tables are too small, a level too many opens or the script is no text, and the
     /// original therefore doesn't say what is kept.
@@ -39,8 +41,9 @@ pub struct End {
     pub kept: [usize; 3],
 }
 
-/// A case: a script, the tables' rooms, and the words that are kept.
+/// A case: a way, a script, the tables' rooms, and the words that are kept.
 pub struct Case {
+    pub way: u32,
     pub text: String,
     pub rooms: [usize; 3],
     pub words: Vec<Vec<u32>>,
@@ -49,7 +52,8 @@ pub struct Case {
 /// What the original makes of a script. Where document 01 decides instead, how the reading ends
 /// stands beside the script, and the log of the original's parser has to say the same.
 pub fn case(script: &Script) -> Case {
-    let Script { text, ends } = script;
+    let Script { way, text, ends } = script;
+    let way = *way;
     let byte = |c| u8::try_from(u32::from(c)).expect("a byte");
     let bytes: Vec<u8> = text.chars().map(byte).collect();
     let text = text.clone();
@@ -59,10 +63,15 @@ pub fn case(script: &Script) -> Case {
         let nodes = vec![FILL; NODE_WORDS * (end.rooms[2] + 1) - 1];
         let words = vec![vec![end.outcome, 0, 0, 0, 0], nodes];
         let rooms = end.rooms;
-        return Case { text, rooms, words };
+        return Case {
+            way,
+            text,
+            rooms,
+            words,
+        };
     };
     let rooms = ends.map_or_else(|| rooms(&whole), |end| end.rooms);
-    let answer = whole.within(rooms);
+    let answer = whole.on(way, rooms);
     let kept = [answer.tokens.len(), answer.errors.len(), answer.statements];
     if let Some(end) = ends {
         assert_eq!((answer.outcome, kept), (end.outcome, end.kept), "{text:?}");
@@ -74,13 +83,19 @@ pub fn case(script: &Script) -> Case {
     let mut words = vec![vec![answer.outcome, tokens, errors, count, answer.first]];
     words.extend(answer.errors.iter().map(|e| e.to_vec()));
     words.extend(answer.nodes.iter().map(|n| n.to_vec()));
-    Case { text, rooms, words }
+    Case {
+        way,
+        text,
+        rooms,
+        words,
+    }
 }
 
 /// What the original makes of a script with room enough: its answer, then each error and node.
 pub fn answer(source: &str) -> Vec<Vec<u32>> {
-    let (text, ends) = (source.bytes().map(char::from).collect(), None);
-    case(&Script { text, ends }).words
+    let text = source.bytes().map(char::from).collect();
+    let (way, ends) = (way::GO_ON, None);
+    case(&Script { way, text, ends }).words
 }
 
 /// Tables that hold what is read.
@@ -149,8 +164,8 @@ impl File {
         for case in self.cases() {
             let [tokens, errors, nodes] = case.rooms;
             let rows: Vec<String> = case.words.iter().map(|row| words(row)).collect();
-            let (text, rows) = (quoted(&case.text), rows.join("\n    "));
-            writeln!(out, "    case {text} {tokens} {errors} {nodes}").expect("a line");
+            let (way, text, rows) = (case.way, quoted(&case.text), rows.join("\n    "));
+            writeln!(out, "    case {way} {text} {tokens} {errors} {nodes}").expect("a line");
             writeln!(out, "    ({rows} []) ∷").expect("a line");
         }
         out + "    []\n\nagree : map answer cases ≡ map expected cases\n"

@@ -2,7 +2,7 @@
 
 use super::{End, Script};
 use expected::maker::Maker;
-use expected::records::outcome;
+use expected::records::{outcome, way};
 use expected::whole::Whole;
 use oracle::{read, Stop};
 
@@ -23,7 +23,8 @@ pub fn script(maker: &mut Maker) -> Script {
 /// A script that the original reads, in tables that hold what is read.
 fn plain(maker: &mut Maker) -> Script {
     let (text, ends) = (maker.text(), None);
-    Script { text, ends }
+    let way = [way::STOP, way::GO_ON][maker.roll(2)];
+    Script { way, text, ends }
 }
 
 /// A script that the original reads without an error, in a node table that is too small. All
@@ -40,6 +41,7 @@ fn few_nodes(maker: &mut Maker) -> Option<Script> {
     let tokens = reading.tokens.len();
     let kept = ends.iter().filter(|end| **end as usize <= room).count();
     Some(Script {
+        way: way::GO_ON,
         text,
         ends: Some(End {
             outcome: outcome::NODE_ROOM,
@@ -75,6 +77,7 @@ fn few_errors(maker: &mut Maker) -> Option<Script> {
     let room = maker.roll(reading.errors.len());
     let tokens = reading.tokens.len();
     Some(Script {
+        way: way::GO_ON,
         text,
         ends: Some(End {
             outcome: outcome::ERROR_ROOM,

@@ -1,8 +1,9 @@
 //! The scripts of each file.
 
-use expected::records::outcome;
+use expected::records::{outcome, way};
 use expected::scripts::{
-    around, many, LEFT_OF_EQUAL, MESSAGES, MORE_WAYS, NEWLINES, SMALL, STARS, WAYS, WORKED,
+    around, many, LEFT_OF_EQUAL, MESSAGES, MISLEXED, MISLEXED_SMALL, MORE_WAYS, NEWLINES, SMALL,
+    STARS, WAYS, WORKED,
 };
 use oracle::{on_large_stack, read};
 
@@ -13,10 +14,37 @@ fn plain(texts: &[&str]) -> Vec<Script> {
     texts
         .iter()
         .map(|text| Script {
+            way: way::GO_ON,
             text: text.to_string(),
             ends: None,
         })
         .collect()
+}
+
+/// Scripts on both ways.
+fn both_ways() -> Vec<Script> {
+    let ways = [way::STOP, way::GO_ON];
+    let enough = MISLEXED.iter().flat_map(|text| {
+        ways.map(|way| Script {
+            way,
+            text: text.to_string(),
+            ends: None,
+        })
+    });
+    let small = MISLEXED_SMALL
+        .iter()
+        .flat_map(|(text, outcomes, rooms, kept)| {
+            [0, 1].map(|at| Script {
+                way: ways[at],
+                text: text.to_string(),
+                ends: Some(End {
+                    outcome: outcomes[at],
+                    rooms: *rooms,
+                    kept: kept[at],
+                }),
+            })
+        });
+    enough.chain(small).collect()
 }
 
 /// Scripts that end in a way that the original doesn't know: the outcome, the tables' rooms, and
@@ -25,6 +53,7 @@ fn ending(scripts: &[(&str, u32, [usize; 3], [usize; 3])]) -> Vec<Script> {
     scripts
         .iter()
         .map(|&(text, outcome, rooms, kept)| Script {
+            way: way::GO_ON,
             text: text.to_string(),
             ends: Some(End {
                 outcome,
@@ -89,6 +118,11 @@ pub fn files() -> Vec<File> {
             name: "Oracle",
             comment: "Each message, newlines and assignments, with what the original answers; and small tables, which it doesn't have, with what document 01 says.",
             scripts: oracle.into_iter().flatten().chain(ending(SMALL)).collect(),
+        },
+        File {
+            name: "Ways",
+            comment: "Both ways of a reading: where lexing records an error, the old one with what the original answers, the new one with what its lexer does.",
+            scripts: both_ways(),
         },
         File {
             name: "Limits",

@@ -7,6 +7,9 @@ use Rattle.entry.proofs.enter.Tie as tie
 scan-requires : tie.Need-scan-requires
 scan-requires c κs = search needs
 
+outcome-on-requires : tie.Need-outcome-on-requires
+outcome-on-requires c κs = search needs
+
 zero-rest-requires : tie.Need-zero-rest-requires
 zero-rest-requires c κs = search needs
 
@@ -21,8 +24,8 @@ same-length-3 c = search needs
 
 returns : tie.Need-returns
 returns c =
-    let a = c .before .before .before .before .before .before .before .before .before .before .before .before .before .before .before .before .before .before .before .args in
-    clears (a .source .now) (a .tokens .now) (a .errors .now) (a .nodes .now) _ _ _ (c .before .before .before .before .before .before .before .before .before .before .before .before .scan .ensures) _ (c .before .before .before .before .if1 .taken) (c .before .before .zero-rest .ensures)
+    let a = c .before .before .before .before .before .before .before .before .before .before .before .before .before .before .before .before .before .args in
+    clears (a .way) (a .source .now) (a .tokens .now) (a .errors .now) (a .nodes .now) _ _ _ (c .before .before .before .before .before .before .before .before .before .before .scan .ensures) _ (c .before .before .before .before .before .outcome-on .ensures) _ (c .before .before .before .before .if1 .taken) (c .before .before .zero-rest .ensures)
 
 same-length-4 : tie.Need-same-length-4
 same-length-4 c = search needs
@@ -32,14 +35,15 @@ same-length-5 c = search needs
 
 returns-2 : tie.Need-returns-2
 returns-2 c =
-    let a = c .before .before .before .before .before .before .before .before .before .before .before .before .before .before .before .args in
-    leaves (a .source .now) (a .tokens .now) (a .errors .now) (a .nodes .now) _ _ _ (c .before .before .before .before .before .before .before .before .scan .ensures) (c .if1 .left)
+    let a = c .before .before .before .before .before .before .before .before .before .before .before .before .before .args in
+    leaves (a .way) (a .source .now) (a .tokens .now) (a .errors .now) (a .nodes .now) _ _ _ (c .before .before .before .before .before .before .scan .ensures) _ (c .before .outcome-on .ensures) (c .if1 .left)
 
 pub enter-spec : {M : Type 1} → statement M
 enter-spec =
     tie.close
     (tie.spec
     scan-requires
+    outcome-on-requires
     zero-rest-requires
     same-length
     same-length-2

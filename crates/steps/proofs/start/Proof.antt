@@ -27,7 +27,7 @@ same-length-3 c = search needs
 returns : tie.Need-returns
 returns c =
     let a = c .before .before .before .before .before .before .before .before .before .before .before .before .before .before .before .before .before .before .before .before .before .before .args in
-    parts _ _ (c .before .before .rest .ensures _ ∙ begun-reads (a .source .now) (a .tokens .now) (a .errors .now) (a .nodes .now) _ _ _ _ (c .before .before .before .before .before .before .before .before .before .before .before .before .before .before .enter .ensures) _ (c .before .before .before .before .before .before .before .fresh .ensures) (c .before .before .before .before .before .if1 .taken))
+    parts _ _ (c .before .before .rest .ensures _ ∙ begun-reads (a .source .now) (a .tokens .now) (a .errors .now) (a .nodes .now) (a .p) _ _ _ _ (c .before .before .before .before .before .before .before .before .before .before .before .before .before .before .enter .ensures) _ (c .before .before .before .before .before .before .before .fresh .ensures) (c .before .before .before .before .before .if1 .taken))
 
 closed-requires : tie.Need-closed-requires
 closed-requires c κs = search needs
@@ -47,7 +47,7 @@ same-length-6 c = search needs
 returns-2 : tie.Need-returns-2
 returns-2 c =
     let a = c .before .before .before .before .before .before .before .before .before .before .before .before .before .before .before .before .before .before .before .args in
-    parts _ _ (begun-ends (a .source .now) (a .tokens .now) (a .errors .now) (a .nodes .now) _ _ _ _ (c .before .before .before .before .before .before .before .before .before .before .before .enter .ensures) _ (c .before .before .before .before .fresh .ensures) (c .before .before .if1 .left) _ (c .leave .ensures ∙ ap leaving (c .before .closed .ensures)))
+    parts _ _ (begun-ends (a .source .now) (a .tokens .now) (a .errors .now) (a .nodes .now) (a .p) _ _ _ _ (c .before .before .before .before .before .before .before .before .before .before .before .enter .ensures) _ (c .before .before .before .before .fresh .ensures) (c .before .before .if1 .left) _ (c .leave .ensures ∙ ap leaving (c .before .closed .ensures)))
 
 pub start-spec : {M : Type 1} → statement M
 start-spec =

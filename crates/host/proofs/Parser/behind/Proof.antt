@@ -10,7 +10,7 @@ first-of-requires c κs = search needs
 returns : tie.Need-returns
 returns c = λ i.
     let a = c .before .args in
-    changed (a .self) (a .s) (c .first-of .ensures i) (a .statement) (a .self .ended) (a .self .outcome)
+    changed (a .self) (a .self .tokens) (a .s) (c .first-of .ensures i) (a .statement) (a .self .ended) (a .self .outcome)
 
 pub behind-spec : {M : Type 1} → statement M
 behind-spec = tie.close (tie.spec first-of-requires returns)

@@ -1,0 +1,26 @@
+-- The two ways of a reading. The old way parses whatever was lexed to its end; the new way is the old one but for this: where lexing recorded an error, nothing is parsed.
+use Prim.Native.Nat.{ℕ}
+use mathlib.Core.Bool.{Bool, cond, _&&_}
+use lib.Dec.{eqb, ltb}
+use Rattle.records.specs.Outcomes.{ended, notParsed}
+use Rattle.lexer.specs.Lex.{Result}
+
+-- the new way; any other number is the old one
+abbrev pub stop : ℕ
+stop = 0
+
+-- the old way, by the number that our own callers give
+abbrev pub goOn : ℕ
+goOn = 1
+
+-- lexing came to that outcome, with so many errors: it reached its end and recorded one
+abbrev pub endedWrong : ℕ → ℕ → Bool
+endedWrong outcome errors = eqb outcome ended && ltb 0 errors
+
+-- what becomes of that outcome: the new way makes 11 of it where lexing reached its end and recorded an error
+abbrev pub outcomeOn : ℕ → ℕ → ℕ → ℕ
+outcomeOn way outcome errors = cond (eqb way stop && endedWrong outcome errors) notParsed outcome
+
+-- what a lexing comes to on a way: all that is kept stays
+abbrev pub onWay : ℕ → Result → Result
+onWay way d = record { outcome = outcomeOn way (d .outcome) (d .errorCount); tokenCount = d .tokenCount; errorCount = d .errorCount; tokens = d .tokens; errors = d .errors }

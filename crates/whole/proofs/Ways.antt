@@ -1,0 +1,92 @@
+-- The two ways of a reading are equal, word for word, but where lexing reached its end and recorded an error: there the new way ends with 11, and keeps what
+-- was lexed. Assumes nothing.
+use mathlib.Core.Path.{_≡_, refl, sym, ap, subst, _∙_}
+use mathlib.Core.Bool.{Bool, true, false, cond, _&&_, _||_}
+use mathlib.Core.List.{List}
+use Prim.Native.Nat.{ℕ, _≤_, _<_}
+use native.Mathlib.Omega.{arith}
+use borrow.Author.Tests.{eqb-true, eq-eqb, ne-eqb, ltb-true, lt-ltb, le-ltb, le-leb}
+use lib.Dec.{eqb, leb, ltb}
+use Rattle.records.specs.Table.{room, tokenWidth, errorWidth}
+use Rattle.lexer.specs.Lex.{Result, lexedOf}
+use Rattle.entry.specs.Ways.{stop, goOn, endedWrong}
+use Rattle.entry.specs.Entry.{enteredAfter}
+use Rattle.entry.specs.Reading.{Reading, pickReading, readAfter, reading}
+use Rattle.whole.specs.Ways.{isFinal, Stops, unparsed}
+use Rattle.whole.proofs.Outcome.{old-outcome}
+
+module _ (s t e n : List ℕ) where
+  -- what is lexed
+  abbrev d : Result
+  d = lexedOf s (room tokenWidth t) (room errorWidth e)
+
+  -- whether the new way stops there
+  abbrev test : Bool
+  test = endedWrong (d .outcome) (d .errorCount)
+
+  -- the reading, where the outcome that its lexing came to is 11 if b holds
+  abbrev by : Bool → Reading
+  by b = readAfter (enteredAfter (record { outcome = cond b 11 (d .outcome); tokenCount = d .tokenCount; errorCount = d .errorCount; tokens = d .tokens; errors = d .errors }) t e n)
+
+  -- any way, by whether it stops
+  on-way : (way : ℕ) (b : Bool) → eqb way stop && test ≡ b → reading way s t e n ≡ by b
+  unfolding reading
+  on-way way b h = ap by h
+
+  -- THE NEW WAY, FROM THE OLD: it ends with 11 and what was lexed, or is the old way
+  pub new-from-old : reading stop s t e n ≡ pickReading test (λ _. unparsed d t e n) λ _. reading goOn s t e n
+  unfolding reading
+  new-from-old = at test
+    where
+      at : (b : Bool) → by b ≡ pickReading b (λ _. unparsed d t e n) λ _. reading goOn s t e n
+      at true = refl
+      at false = refl
+
+  -- where no error was recorded in lexing, all ways are equal
+  pub without-errors : (way v : ℕ) → d .errorCount ≡ 0 → reading way s t e n ≡ reading v s t e n
+  without-errors way v z = on-way way false (never way) ∙ sym (on-way v false (never v))
+    where
+      and-false : (x y : Bool) → x && (y && false) ≡ false
+      and-false true true = refl
+      and-false true false = refl
+      and-false false y = refl
+
+      never : (way : ℕ) → eqb way stop && test ≡ false
+      never way = ap (λ (b : Bool). eqb way stop && (eqb (d .outcome) 0 && b)) (le-ltb 0 (d .errorCount) (omega (arith, z))) ∙ and-false (eqb way stop) (eqb (d .outcome) 0)
+
+  -- all ways but 0 are the old one
+  pub old-ways : (way : ℕ) → (way ≡ stop → ⊥) → reading way s t e n ≡ reading goOn s t e n
+  old-ways way z = on-way way false (ap (λ (b : Bool). b && test) (ne-eqb way stop z)) ∙ sym (on-way goOn false refl)
+
+  -- a reading that has to stops with 11, and keeps what was lexed
+  pub stops-so : (way : ℕ) → Stops way d → reading way s t e n ≡ unparsed d t e n
+  stops-so way x =
+      on-way way true
+      ((λ i. eq-eqb way stop (x .new) i && (eq-eqb (d .outcome) 0 (x .lexed) i && lt-ltb 0 (d .errorCount) (x .wrong) i)))
+
+  -- no other ends with 11
+  pub stops-only : (way : ℕ) → reading way s t e n .outcome ≡ 11 → Stops way d
+  stops-only way h = at (eqb way stop) refl (eqb (d .outcome) 0) refl (ltb 0 (d .errorCount)) refl
+    where
+      -- the old way doesn't
+      goes : eqb way stop && test ≡ false → ⊥
+      goes f =
+          let a : reading goOn s t e n .outcome ≡ 11 = ap (λ (r : Reading). r .outcome) (on-way goOn false refl ∙ sym (on-way way false f)) ∙ h in
+          let b = old-outcome s t e n in
+          omega (arith, a, b)
+
+      at : (x : Bool) → eqb way stop ≡ x → (y : Bool) → eqb (d .outcome) 0 ≡ y → (z : Bool) → ltb 0 (d .errorCount) ≡ z → Stops way d
+      at true p true q true r = record { new = eqb-true way stop p; lexed = eqb-true (d .outcome) 0 q; wrong = ltb-true 0 (d .errorCount) r }
+      at true p true q false r = absurd (goes (λ i. p i && (q i && r i)))
+      at true p false q z r = absurd (goes (λ i. p i && (q i && ltb 0 (d .errorCount))))
+      at false p y q z r = absurd (goes (λ i. p i && test))
+
+  -- a reading ends with 0 to 8, or with 11
+  pub reading-outcome : (way : ℕ) → isFinal (reading way s t e n .outcome) ≡ true
+  reading-outcome way = at (eqb way stop && test) refl
+    where
+      at : (b : Bool) → eqb way stop && test ≡ b → isFinal (reading way s t e n .outcome) ≡ true
+      at true h = ap (λ (r : Reading). isFinal (r .outcome)) (on-way way true h)
+      at false h =
+          ap (λ (r : Reading). isFinal (r .outcome)) (on-way way false h ∙ sym (on-way goOn false refl))
+          ∙ ap (λ (b : Bool). b || eqb (reading goOn s t e n .outcome) 11) (le-leb (reading goOn s t e n .outcome) 8 (old-outcome s t e n))
