@@ -2,8 +2,8 @@
 
 use expected::records::{LONGEST, WIDTHS};
 use expected::scripts::{
-    around, many, LEFT_OF_EQUAL, MESSAGES, MORE_WAYS, NEWLINES, SMALL, STARS, UNSTARRED, WAYS,
-    WORKED,
+    around, many, LEFT_OF_EQUAL, MESSAGES, MISLEXED, MORE_WAYS, NEWLINES, SMALL, STARS, UNSTARRED,
+    WAYS, WORKED,
 };
 use oracle::logged::LEVELS;
 
@@ -74,7 +74,15 @@ pub fn exact(source: &[u8]) -> Trial {
 
 /// The scripts of document 01, and those that the definition is tried on.
 pub fn listed() -> impl Iterator<Item = Vec<u8>> {
-    let plain = [STARS, UNSTARRED, WORKED, MESSAGES, NEWLINES, LEFT_OF_EQUAL];
+    let plain = [
+        STARS,
+        UNSTARRED,
+        WORKED,
+        MESSAGES,
+        NEWLINES,
+        LEFT_OF_EQUAL,
+        MISLEXED,
+    ];
     let plain = plain.into_iter().flatten().map(|text| text.to_string());
     let small = SMALL.iter().map(|(text, ..)| text.to_string());
     // A character stands for a byte there.

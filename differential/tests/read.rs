@@ -3,6 +3,7 @@
 use differential::compare::Difference;
 use differential::run::Comparison;
 use differential::{longest_readings, readings_at_limits, readings_of_all_kinds, ReadSizes};
+use expected::records::outcome::NOT_PARSED;
 use expected::records::{kind, message};
 use oracle::on_large_stack;
 
@@ -23,7 +24,8 @@ fn scripts() {
     compare(readings_of_all_kinds);
 }
 
-/// The listed scripts among them have every message and every kind of node.
+/// The listed scripts among them have every message and every kind of node; and every call is made on
+/// both ways.
 #[test]
 fn limits() {
     compare(|comparison, sizes, seed| {
@@ -31,6 +33,17 @@ fn limits() {
         let [messages, kinds] = comparison.seen();
         assert!(messages.into_iter().eq(message::ALL));
         assert!(kinds.into_iter().eq(kind::ALL));
+        let calls = |what: &str| -> u64 {
+            let all = comparison.groups.iter().flat_map(|group| &group.calls);
+            all.filter(|(name, _)| name.starts_with(what))
+                .map(|(_, count)| count)
+                .sum()
+        };
+        for what in ["read ", "pair "] {
+            assert_eq!(calls(what), calls(&format!("new {what}")));
+            let stopped = calls(&format!("new {what}{NOT_PARSED}"));
+            assert!(stopped > 1_000, "{what}{stopped}");
+        }
         Ok(())
     });
 }

@@ -204,7 +204,7 @@ fn statement_by_statement() {
             stopped += usize::from(answer.outcome == outcome::NOT_PARSED);
         }
     });
-    assert!(statements > 500 && stopped > 50, "{statements} {stopped}");
+    assert!(statements > 500 && stopped > 20, "{statements} {stopped}");
 }
 
 /// A parser that doesn't go with its tables: nothing is changed.

@@ -704,7 +704,7 @@ fn standard_input() {
 }
 
 const USAGE: &str =
-    "usage: kettleplume read [--outline] FILE...\n       kettleplume --help | --version\n";
+    "usage: kettleplume read [--go-on] [--outline] FILE...\n       kettleplume --help | --version\n";
 
 #[test]
 fn words_that_are_not_understood() {
@@ -715,6 +715,7 @@ fn words_that_are_not_understood() {
         (&["\x1b[2J"], "there is no command '\\u{1b}[2J'"),
         (&["read"], "a file to read is missing"),
         (&["read", "--outline"], "a file to read is missing"),
+        (&["read", "--go-on"], "a file to read is missing"),
         (&["read", "--"], "a file to read is missing"),
         (&["read", "-o", "a.gr"], "there is no option '-o'"),
         (
