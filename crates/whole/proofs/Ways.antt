@@ -1,6 +1,6 @@
 -- The two ways of a reading are equal, word for word, but where lexing reached its end and recorded an error: there the new way ends with 11, and keeps what
 -- was lexed. Assumes nothing.
-use mathlib.Core.Path.{_≡_, refl, sym, ap, subst, _∙_}
+use mathlib.Core.Path.{_≡_, refl, sym, ap, _∙_}
 use mathlib.Core.Bool.{Bool, true, false, cond, _&&_, _||_}
 use mathlib.Core.List.{List}
 use Prim.Native.Nat.{ℕ, _≤_, _<_}
@@ -10,7 +10,7 @@ use lib.Dec.{eqb, leb, ltb}
 use Rattle.records.specs.Table.{room, tokenWidth, errorWidth}
 use Rattle.lexer.specs.Lex.{Result, lexedOf}
 use Rattle.entry.specs.Ways.{stop, goOn, endedWrong}
-use Rattle.entry.specs.Entry.{enteredAfter}
+use Rattle.entry.specs.Entry.{enteredAfter, entered}
 use Rattle.entry.specs.Reading.{Reading, pickReading, readAfter, reading}
 use Rattle.whole.specs.Ways.{isFinal, Stops, unparsed}
 use Rattle.whole.proofs.Outcome.{old-outcome}
@@ -58,11 +58,17 @@ module _ (s t e n : List ℕ) where
   pub old-ways : (way : ℕ) → (way ≡ stop → ⊥) → reading way s t e n ≡ reading goOn s t e n
   old-ways way z = on-way way false (ap (λ (b : Bool). b && test) (ne-eqb way stop z)) ∙ sym (on-way goOn false refl)
 
-  -- a reading that has to stops with 11, and keeps what was lexed
+  -- where a reading has to stop, the test holds
+  holds : (way : ℕ) → Stops way d → eqb way stop && test ≡ true
+  holds way x = λ i. eq-eqb way stop (x .new) i && (eq-eqb (d .outcome) 0 (x .lexed) i && lt-ltb 0 (d .errorCount) (x .wrong) i)
+
+  -- such a reading enters no parsing
+  pub entered-stops : (way : ℕ) → Stops way d → entered way s t e n .outcome ≡ 11
+  entered-stops way x = ap (λ (b : Bool). cond b 11 (d .outcome)) (holds way x)
+
+  -- it ends with 11, and keeps what was lexed
   pub stops-so : (way : ℕ) → Stops way d → reading way s t e n ≡ unparsed d t e n
-  stops-so way x =
-      on-way way true
-      ((λ i. eq-eqb way stop (x .new) i && (eq-eqb (d .outcome) 0 (x .lexed) i && lt-ltb 0 (d .errorCount) (x .wrong) i)))
+  stops-so way x = on-way way true (holds way x)
 
   -- no other ends with 11
   pub stops-only : (way : ℕ) → reading way s t e n .outcome ≡ 11 → Stops way d
