@@ -1,17 +1,16 @@
 -- Demand 3: what may be blacked out does not change the reading. Assumes nothing.
-use mathlib.Core.Path.{_≡_, refl, sym, ap, subst, _∙_}
-use mathlib.Core.Bool.{Bool, true, false, not}
+use mathlib.Core.Path.{_≡_, sym, ap, subst, _∙_}
 use mathlib.Core.List.{List}
 use Prim.Native.Nat.{ℕ, _<_}
 use native.Mathlib.Omega.{arith}
 use borrow.Author.Tests.{lt-ltb}
-use lib.Dec.{T, ltb}
+use lib.Dec.{T}
 use lib.ListN.{length}
 use Rattle.text.specs.Text.{isText}
 use Rattle.records.specs.Table.{room, tokenWidth, errorWidth}
 use Rattle.items.specs.declared.Item.{Item}
-use Rattle.lexer.specs.Lex.{Result, emit, fresh, refusal, pickResult, lexed, lexedOf}
-use Rattle.parser.specs.Whole.{Parsed, parsed}
+use Rattle.lexer.specs.Lex.{Result, emit, fresh, refusal, lexed, lexedOf}
+use Rattle.parser.specs.Whole.{parsed}
 use Rattle.entry.specs.Ways.{onWay}
 use Rattle.entry.specs.Entry.{over, enteredAfter}
 use Rattle.entry.specs.Reading.{Reading, readAfter, reading}

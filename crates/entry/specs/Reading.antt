@@ -33,9 +33,13 @@ abbrev pub pickReading : Bool → (Unit {0} → Reading) → (Unit {0} → Readi
 pickReading true a b = a tt
 pickReading false a b = b tt
 
--- what stands is parsed, or is the answer
+-- what stands is parsed, where the test holds, or is the answer
+abbrev pub readBy : Bool → Entered → Reading
+readBy b d = pickReading b (λ _. joined (d .tokenCount) (d .tokens) (parsed (d .tokens) (d .errorCount) (d .errors) (d .nodes))) λ _. refused d
+
+-- it is parsed where lexing reached its end
 abbrev pub readAfter : Entered → Reading
-readAfter d = pickReading (eqb (d .outcome) ended) (λ _. joined (d .tokenCount) (d .tokens) (parsed (d .tokens) (d .errorCount) (d .errors) (d .nodes))) λ _. refused d
+readAfter d = readBy (eqb (d .outcome) ended) d
 
 -- the reading of any bytes, on either way, into tables t, e and n
 unfoldable pub reading : ℕ → List ℕ → List ℕ → List ℕ → List ℕ → Reading

@@ -10,18 +10,18 @@ use Rattle.parser.specs.declared.Parsed as answers
 use Rattle.parser.specs.Whole.{parsed, Parsing}
 use Rattle.entry.specs.declared.Answer.{Answer}
 use Rattle.entry.specs.Entry.{Entered, entered, Enters}
-use Rattle.entry.specs.Reading.{refused, joined, pickReading, readAfter, reading, Answers}
+use Rattle.entry.specs.Reading.{readBy, readAfter, reading, Answers}
 use Rattle.entry.proofs.Entry.{standing, stands-as}
 
 module _ (way : ℕ) (s t e n T E N : List ℕ) (d : Scanned) (l : Enters (entered way s t e n) d T E N) where
   -- by its test
   by : (b : Bool) (r : Answer) (E′ N′ : List ℕ) → eqb (d .outcome) 0 ≡ b
-      → Answers (pickReading b (λ _. joined (d .tokens) T (parsed T (d .errors) E N)) λ _. refused (standing d T E N)) r T E′ N′
+      → Answers (readBy b (standing d T E N)) r T E′ N′
       → Answers (reading way s t e n) r T E′ N′
   unfolding reading
   by b r E′ N′ p a =
       subst (λ (x : Entered). Answers (readAfter x) r T E′ N′) (stands-as (entered way s t e n) d T E N l)
-      (subst (λ (z : Bool). Answers (pickReading z (λ _. joined (d .tokens) T (parsed T (d .errors) E N)) λ _. refused (standing d T E N)) r T E′ N′) (sym p) a)
+      (subst (λ (z : Bool). Answers (readBy z (standing d T E N)) r T E′ N′) (sym p) a)
 
   -- what was lexed is parsed, and parsing decides
   pub goes-on : (p : answers.Parsed) (E′ N′ : List ℕ) → d .outcome ≡ 0 → Parsing (parsed T (d .errors) E N) p E′ N′

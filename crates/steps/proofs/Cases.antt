@@ -1,5 +1,5 @@
 -- The cases of the two calls, in the form that the code's facts have. Assumes nothing.
-use mathlib.Core.Path.{_≡_, refl, sym, ap, _∙_}
+use mathlib.Core.Path.{_≡_, sym, ap, _∙_}
 use mathlib.Core.Bool.{Bool, true, false}
 use mathlib.Core.List.{List}
 use Prim.Native.Nat.{ℕ}
@@ -15,12 +15,12 @@ use Rattle.parser.specs.Tokens.{kindAt}
 use Rattle.parser.specs.Tables.{Reply, reply}
 use Rattle.parser.specs.Whole.{topLevel}
 use Rattle.entry.specs.Entry.{entered, Enters}
-use Rattle.entry.proofs.Entry.{stands-as}
+use Rattle.entry.proofs.Entry.{standing, stands-as}
 use Rattle.host.specs.declared.Parser.{Parser}
 use Rattle.host.specs.Kept.{fresh, stateOf, markedAs, behind, stoppedAt}
 use Rattle.host.specs.Fits.{fitsIn}
 use Rattle.steps.specs.declared.Stepped.{Stepped}
-use Rattle.steps.specs.Steps.{Called, left, leaving, final, pickCall, restOf, begunAfter, begun, refusedAs, afterOne, oneOf, nextOf}
+use Rattle.steps.specs.Steps.{Called, left, leaving, final, pickCall, restOf, begunBy, begunAfter, begun, refusedAs, afterOne, oneOf, nextOf}
 
 -- the four parts of a call
 pub parts : (c d : Called) → c ≡ d → (c .stepped ≡ d .stepped) × (c .tokens ≡ d .tokens) × (c .errors ≡ d .errors) × (c .nodes ≡ d .nodes)
@@ -67,10 +67,10 @@ module _ (T : List ℕ) (p : Parser) (E N : List ℕ) (k : ℕ) (is : k ≡ kind
 module _ (s t e n : List ℕ) (p : Parser) (T E N : List ℕ) (d : Scanned) (l : Enters (entered (p .way) s t e n) d T E N) where
   -- by the test
   begun-by : (b : Bool) → eqb (d .outcome) 0 ≡ b
-      → pickCall b (λ _. restOf T (fresh p (d .tokens) (d .errors)) E N) (λ _. left (leaving (markedAs 1 (d .outcome) (fresh p (d .tokens) (d .errors)))) T E N) ≡ begun s t e n p
+      → begunBy b p (standing d T E N) ≡ begun s t e n p
   unfolding begun
   begun-by b h =
-      ap (λ (x : Bool). pickCall x (λ _. restOf T (fresh p (d .tokens) (d .errors)) E N) λ _. left (leaving (markedAs 1 (d .outcome) (fresh p (d .tokens) (d .errors)))) T E N) (sym h)
+      ap (λ (x : Bool). begunBy x p (standing d T E N)) (sym h)
       ∙ ap (begunAfter p) (stands-as (entered (p .way) s t e n) d T E N l)
 
   module _ (q : Parser) (new : q ≡ fresh p (d .tokens) (d .errors)) where

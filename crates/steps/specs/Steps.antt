@@ -50,11 +50,15 @@ unfoldable pub restOf : List ℕ → Parser → List ℕ → List ℕ → Called
 restOf T p E N = pickCall (eqb (kindAt T (p .current)) EOF) (λ _. final outcomes.ended p T E N) λ _. left (leaving (markedAs 0 outcomes.goesOn p)) T E N
 
 -- ---- begin
--- what stands when lexing is over is read, a statement at a time; or its outcome is the final answer
-abbrev pub begunAfter : Parser → Entered → Called
-begunAfter p d =
-    pickCall (eqb (d .outcome) outcomes.ended) (λ _. restOf (d .tokens) (fresh p (d .tokenCount) (d .errorCount)) (d .errors) (d .nodes)) λ _.
+-- what stands when lexing is over is read, a statement at a time, where the test holds; or its outcome is the final answer
+abbrev pub begunBy : Bool → Parser → Entered → Called
+begunBy b p d =
+    pickCall b (λ _. restOf (d .tokens) (fresh p (d .tokenCount) (d .errorCount)) (d .errors) (d .nodes)) λ _.
     left (leaving (markedAs 1 (d .outcome) (fresh p (d .tokenCount) (d .errorCount)))) (d .tokens) (d .errors) (d .nodes)
+
+-- it is read where lexing reached its end
+abbrev pub begunAfter : Parser → Entered → Called
+begunAfter p d = begunBy (eqb (d .outcome) outcomes.ended) p d
 
 -- `begin`, of any source into tables t, e and n, on the parser's way: what else the parser was does not matter
 unfoldable pub begun : List ℕ → List ℕ → List ℕ → List ℕ → Parser → Called

@@ -27,8 +27,8 @@ use Rattle.entry.proofs.Ways.{on-ended}
 use Rattle.whole.proofs.Sizes.{over-keeps}
 use Rattle.host.specs.declared.Parser.{Parser}
 use Rattle.host.specs.Fits.{noEof, onlyEof}
-use Rattle.host.specs.Kept.{markedAs, fresh}
-use Rattle.steps.specs.Steps.{Called, left, leaving, final, pickCall, restOf, begun, nexts}
+use Rattle.host.specs.Kept.{fresh}
+use Rattle.steps.specs.Steps.{Called, begunBy, begun, nexts}
 use Rattle.turns.proofs.Steady as steady
 use Rattle.turns.proofs.Steady.{Fit, Steady, going, rest-steady, reads-steady, steady-ends}
 
@@ -111,9 +111,7 @@ begun-steady s t e n p = at (eqb (d .outcome) 0) refl
     d : Entered
     d = entered (p .way) s t e n
 
-    at : (x : Bool) → eqb (d .outcome) 0 ≡ x → Steady (length s + 2) 0
-        (pickCall x (λ _. restOf (d .tokens) (fresh p (d .tokenCount) (d .errorCount)) (d .errors) (d .nodes)) λ _.
-        left (leaving (markedAs 1 (d .outcome) (fresh p (d .tokenCount) (d .errorCount)))) (d .tokens) (d .errors) (d .nodes))
+    at : (x : Bool) → eqb (d .outcome) 0 ≡ x → Steady (length s + 2) 0 (begunBy x p d)
     at true h = rest-steady (length s + 2) 0 (d .tokens) (fresh p (d .tokenCount) (d .errorCount)) (d .errors) (d .nodes) (fresh-fit s t e n p (eqb-true (d .outcome) 0 h)) (token-count s (room tokenWidth t) (room errorWidth e)) (omega arith)
     at false h = steady.over _ one-not
 

@@ -1,7 +1,7 @@
 -- Loops are entered behind their keyword, so that the loop count never exceeds the cursor: over any tables, a statement that is read from a state in which it
 -- does not leaves a state in which it does not.
 -- Assumes nothing.
-use mathlib.Core.Path.{_≡_, refl, subst}
+use mathlib.Core.Path.{_≡_, refl}
 use mathlib.Core.List.{List, [], _∷_}
 use mathlib.Core.Bool.{Bool, true, false, _&&_}
 use Prim.Native.Nat.{ℕ, zero, suc, _+_, _-_, _≤_}
@@ -13,7 +13,6 @@ use Rattle.parser.specs.declared.State.{State}
 use Rattle.parser.specs.declared.Form.{Form}
 use Rattle.parser.specs.declared.Form.the-variants.{Other, Empty, Name, Property}
 use Rattle.parser.specs.declared.Found.{Found}
-use Rattle.parser.specs.declared.Got.{Got}
 use Rattle.parser.specs.declared.Got.the-variants.{Node, Stop}
 use Rattle.parser.specs.declared.Seen.{Seen}
 use Rattle.parser.specs.declared.Seen.the-variants.{At, Nothing}

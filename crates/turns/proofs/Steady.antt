@@ -1,16 +1,15 @@
 -- No read answers 18 on the way: a parser that fits its tables, with a loop count that is not over its cursor, goes on to one that does, or to the final answer; and that comes after as many
 -- reads as there are tokens.
 -- Assumes nothing.
-use mathlib.Core.Path.{_≡_, refl, sym, ap, subst, _∙_}
+use mathlib.Core.Path.{_≡_, refl, sym, subst}
 use mathlib.Core.Bool.{Bool, true, false, _&&_}
 use mathlib.Core.List.{List}
 use Prim.Native.Nat.{ℕ, zero, suc, _≤_, _<_}
 use native.Mathlib.Omega.{arith}
-use lib.Dec.{eqb, leb, ltb}
-use lib.ListN.{length}
+use lib.Dec.{eqb}
 use borrow.Author.Tests.{eqb-true, lt-ltb, le-leb}
 use Rattle.token.specs.Kind.{Newline}
-use Rattle.records.specs.Table.{room, linked, zeroed, tokenWidth, errorWidth, nodeWidth}
+use Rattle.records.specs.Table.{room, linked, tokenWidth, errorWidth, nodeWidth}
 use Rattle.records.proofs.Room.{room-length}
 use Rattle.records.proofs.Rest.{linked-length}
 use Rattle.parser.specs.declared.State as state
@@ -30,8 +29,8 @@ use Rattle.trees.proofs.TreeTyping.{Done, Held}
 use Rattle.trees.proofs.Trees.{lower-reads}
 use Rattle.host.specs.declared.Parser.{Parser}
 use Rattle.host.specs.Fits.{noEof, onlyEof, fitsIn}
-use Rattle.host.specs.Kept.{markedAs, stateOf, behind, stoppedAt}
-use Rattle.steps.specs.Steps.{Called, left, leaving, final, pickCall, restOf, afterOne, oneOf, nextOf, next, nexts}
+use Rattle.host.specs.Kept.{markedAs, stateOf, behind}
+use Rattle.steps.specs.Steps.{Called, left, leaving, final, pickCall, restOf, afterOne, oneOf, next, nexts}
 use Rattle.steps.proofs.Cases.{next-again, next-goes-on}
 use Rattle.turns.proofs.Loops.{Low, top-low}
 

@@ -17,11 +17,11 @@ use Rattle.entry.specs.declared.Answer.{Answer}
 use Rattle.whole.specs.Ways.{isFinal}
 use Rattle.whole.proofs.Ways.{reading-outcome}
 use Rattle.entry.specs.Entry.{Entered, entered}
-use Rattle.entry.specs.Reading.{Reading, refused, joined, pickReading, reading, Answers}
+use Rattle.entry.specs.Reading.{Reading, joined, readBy, reading, Answers}
 use Rattle.host.specs.declared.Parser.{Parser}
 use Rattle.host.specs.Fits.{fitsIn}
 use Rattle.host.specs.Kept.{markedAs, fresh, stateOf, behind, stoppedAt}
-use Rattle.steps.specs.Steps.{Called, left, held, leaving, final, pickCall, restOf, begun, afterOne, oneOf, nextOf, next, nexts}
+use Rattle.steps.specs.Steps.{Called, left, held, leaving, final, pickCall, restOf, begunBy, begun, afterOne, oneOf, nextOf, next, nexts}
 use Rattle.steps.proofs.Cases.{next-again, next-refuses, next-goes-on}
 
 -- how a call stands to the whole reading R: it gave the final answer, and all is as R has it; or the statements that are left make R, with fuel for a turn
@@ -99,10 +99,7 @@ next-stands R _ (done p T E N z a) = subst (Stands R) (next-again T E N p z) (do
 next-stands R _ (on r p T E N f z enough e) = next-by R T p E N f enough e z (fitsIn T E N p) refl
 
 -- after lexing, by its test
-begin-stands : (p : Parser) (d : Entered) (x : Bool) → Stands
-    (pickReading x (λ _. joined (d .tokenCount) (d .tokens) (parsed (d .tokens) (d .errorCount) (d .errors) (d .nodes))) λ _. refused d)
-    (pickCall x (λ _. restOf (d .tokens) (fresh p (d .tokenCount) (d .errorCount)) (d .errors) (d .nodes)) λ _.
-    left (leaving (markedAs 1 (d .outcome) (fresh p (d .tokenCount) (d .errorCount)))) (d .tokens) (d .errors) (d .nodes))
+begin-stands : (p : Parser) (d : Entered) (x : Bool) → Stands (readBy x d) (begunBy x p d)
 unfolding parsed
 begin-stands p d true = rests _ (d .tokens) (fresh p (d .tokenCount) (d .errorCount)) (d .errors) (d .nodes) (count (d .tokens)) (omega arith) refl
 begin-stands p d false =

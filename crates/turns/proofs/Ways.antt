@@ -17,8 +17,8 @@ use Rattle.whole.specs.Ways.{Stops}
 use Rattle.whole.proofs.Ways.{entered-stops, stops-only}
 use Rattle.host.specs.declared.Parser.{Parser}
 use Rattle.host.specs.Fits.{fitsIn}
-use Rattle.host.specs.Kept.{fresh, markedAs, behind, stateOf}
-use Rattle.steps.specs.Steps.{Called, left, leaving, pickCall, restOf, begunAfter, begun, afterOne, oneOf, nextOf, nexts}
+use Rattle.host.specs.Kept.{fresh, behind, stateOf}
+use Rattle.steps.specs.Steps.{Called, pickCall, restOf, begunBy, begunAfter, begun, afterOne, oneOf, nextOf, nexts}
 use Rattle.turns.proofs.Turns.{yields-whole}
 
 -- the way that a call leaves
@@ -78,8 +78,7 @@ module _ (s t e n : List ℕ) (p : Parser) where
       i = entered-stops s t e n (p .way) x
 
       at : (b : Bool) → eqb (d .outcome) 0 ≡ b
-          → let c = pickCall b (λ _. restOf (d .tokens) (fresh p (d .tokenCount) (d .errorCount)) (d .errors) (d .nodes)) λ _. left (leaving (markedAs 1 (d .outcome) (fresh p (d .tokenCount) (d .errorCount)))) (d .tokens) (d .errors) (d .nodes) in
-          (c .stepped .answer .outcome ≡ 11) × (c .stepped .parser .ended ≡ 1)
+          → let c = begunBy b p d in (c .stepped .answer .outcome ≡ 11) × (c .stepped .parser .ended ≡ 1)
       at true h = let z = eqb-true (d .outcome) 0 h in absurd (omega (arith, i, z))
       at false h = (i, refl)
 

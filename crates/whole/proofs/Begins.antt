@@ -14,10 +14,9 @@ use Rattle.lexer.specs.Lex.{Result, lexedOf}
 use Rattle.lexing.specs.Begins.{Begins, beginsAt, Begun}
 use Rattle.lexing.proofs.Answer.{tokens-within}
 use Rattle.lexing.proofs.Begins.{lexing-begins}
-use Rattle.parser.specs.Whole.{parsed}
 use Rattle.entry.specs.Ways.{onWay}
-use Rattle.entry.specs.Entry.{Entered, over, enteredAfter}
-use Rattle.entry.specs.Reading.{Reading, refused, joined, pickReading, readAfter, reading}
+use Rattle.entry.specs.Entry.{over, enteredAfter, entered}
+use Rattle.entry.specs.Reading.{Reading, readBy, reading}
 use Rattle.whole.specs.Begins.{TokensBegin}
 use Rattle.whole.proofs.Rooms.{lexed-rooms}
 use Rattle.whole.proofs.Sizes.{over-keeps}
@@ -56,17 +55,11 @@ module _ (s t e n : List ℕ) where
         omega (arith, x, y, z);
   }
 
-  after : (way : ℕ) → TokensBegin s (readAfter (enteredAfter (onWay way d) t e n))
-  after way = at (eqb (x .outcome) 0)
-    where
-      x : Entered
-      x = enteredAfter (onWay way d) t e n
-
-      at : (b : Bool) → TokensBegin s (pickReading b (λ _. joined (x .tokenCount) (x .tokens) (parsed (x .tokens) (x .errorCount) (x .errors) (x .nodes))) λ _. refused x)
-      at true = has _ refl refl
-      at false = has _ refl refl
+  after : (way : ℕ) (b : Bool) → TokensBegin s (readBy b (enteredAfter (onWay way d) t e n))
+  after way true = has _ refl refl
+  after way false = has _ refl refl
 
 -- every token that a reading keeps, of any bytes into any tables
 pub reading-begins : (way : ℕ) (s t e n : List ℕ) → TokensBegin s (reading way s t e n)
 unfolding reading
-reading-begins way s t e n = after s t e n way
+reading-begins way s t e n = after s t e n way (eqb (entered way s t e n .outcome) 0)

@@ -18,7 +18,7 @@ use Rattle.parsing.specs.Ahead.{isOutcome}
 use Rattle.parsing.proofs.Ahead.{parsed-outcome}
 use Rattle.entry.specs.Ways.{goOn}
 use Rattle.entry.specs.Entry.{over, nodesAfter, enteredAfter}
-use Rattle.entry.specs.Reading.{refused, joined, pickReading, readAfter, reading}
+use Rattle.entry.specs.Reading.{readBy, readAfter, reading}
 
 -- where a lexing stops, it is with such an outcome
 abbrev Low : Onward → Type 0
@@ -96,6 +96,6 @@ old-outcome s t e n = after (lexedOf s (room tokenWidth t) (room errorWidth e)) 
         N : List ℕ
         N = nodesAfter (d .outcome) n
 
-        at : (x : Bool) → pickReading x (λ _. joined (d .tokenCount) T (parsed T (d .errorCount) E N)) (λ _. refused (enteredAfter d t e n)) .outcome ≤ 8
+        at : (x : Bool) → readBy x (enteredAfter d t e n) .outcome ≤ 8
         at true = parsed-low (parsed T (d .errorCount) E N .outcome) (parsed-outcome T (d .errorCount) E N)
         at false = l

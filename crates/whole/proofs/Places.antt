@@ -22,12 +22,11 @@ use Rattle.lexing.specs.Kept.{Good, Placed, Ending, whole, short}
 use Rattle.lexing.proofs.Kept.{lexed-keeps}
 use Rattle.lexing.proofs.Answer.{errors-within}
 use Rattle.parser.specs.Tokens.{startAt}
-use Rattle.parser.specs.Whole.{parsed}
 use Rattle.parsing.proofs.Frame.{parsed-errors-kept}
 use Rattle.parsing.proofs.Places.{parsed-about}
 use Rattle.entry.specs.Ways.{onWay}
 use Rattle.entry.specs.Entry.{over, nodesAfter, enteredAfter}
-use Rattle.entry.specs.Reading.{Reading, refused, joined, pickReading, readAfter, reading}
+use Rattle.entry.specs.Reading.{Reading, readBy, readAfter, reading}
 use Rattle.whole.specs.Places.{Place, lexers, parsers}
 use Rattle.whole.proofs.Rooms.{lexed-rooms}
 use Rattle.whole.proofs.Sizes.{Well, well-on, over-keeps, over-agree}
@@ -124,7 +123,7 @@ module _ (way : ℕ) (s t e n : List ℕ) where
   place = at (eqb (d .outcome) 0) refl
     where
       r : Bool → Reading
-      r x = pickReading x (λ _. joined (d .tokenCount) T (parsed T (d .errorCount) E N)) λ _. refused (enteredAfter d t e n)
+      r x = readBy x (enteredAfter d t e n)
 
       at : (x : Bool) → eqb (d .outcome) 0 ≡ x → (k : ℕ) → k < r x .errorCount → Place (length s) (r x) k
       at true o k h =

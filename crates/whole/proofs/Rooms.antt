@@ -16,7 +16,7 @@ use Rattle.parser.specs.Whole.{parsed}
 use Rattle.parsing.proofs.Frame.{parsed-errors-kept, parsed-nodes-within}
 use Rattle.entry.specs.Ways.{onWay}
 use Rattle.entry.specs.Entry.{over, nodesAfter, enteredAfter}
-use Rattle.entry.specs.Reading.{refused, joined, pickReading, readAfter, reading}
+use Rattle.entry.specs.Reading.{readBy, readAfter, reading}
 use Rattle.whole.specs.Sizes.{Within}
 use Rattle.whole.proofs.Sizes.{over-keeps, after-long}
 
@@ -43,7 +43,7 @@ module _ (d : Result) (t e n : List ℕ) (ht : d .tokenCount ≤ room tokenWidth
   after-rooms : Within t e n (readAfter (enteredAfter d t e n))
   after-rooms = at (eqb (d .outcome) 0)
     where
-      at : (x : Bool) → Within t e n (pickReading x (λ _. joined (d .tokenCount) T (parsed T (d .errorCount) E N)) λ _. refused (enteredAfter d t e n))
+      at : (x : Bool) → Within t e n (readBy x (enteredAfter d t e n))
       at true =
           let k = parsed-errors-kept T (d .errorCount) E N in
           let r = parsed T (d .errorCount) E N in

@@ -31,7 +31,7 @@ use Rattle.parsing.proofs.Frame.{parsed-errors-kept, parsed-nodes-long}
 use Rattle.parsing.proofs.Ahead.{parsed-tokens, parsed-outcome}
 use Rattle.entry.specs.Ways.{onWay}
 use Rattle.entry.specs.Entry.{over, unread, nodesAfter, enteredAfter}
-use Rattle.entry.specs.Reading.{refused, joined, pickReading, readAfter, reading}
+use Rattle.entry.specs.Reading.{readBy, readAfter, reading}
 use Rattle.entry.proofs.Ways.{on-ended, on-unread, on-read}
 use Rattle.whole.specs.Sizes.{SameReading, Rest}
 
@@ -207,8 +207,8 @@ module _ (d : Result) (w : Well d) (t e n t′ e′ n′ : List ℕ) (tl : lengt
     where
       at : (x : Bool) → eqb (d .outcome) 0 ≡ x
           → SameReading
-          (pickReading x (λ _. joined (d .tokenCount) (over (d .tokens) t) (parsed (over (d .tokens) t) (d .errorCount) (over (d .errors) e) (nodesAfter (d .outcome) n))) λ _. refused (enteredAfter d t e n))
-          (pickReading x (λ _. joined (d .tokenCount) (over (d .tokens) t′) (parsed (over (d .tokens) t′) (d .errorCount) (over (d .errors) e′) (nodesAfter (d .outcome) n′))) λ _. refused (enteredAfter d t′ e′ n′))
+          (readBy x (enteredAfter d t e n))
+          (readBy x (enteredAfter d t′ e′ n′))
       at true p =
           let h = joined-sizes (eqb-true (d .outcome) 0 p) in
           record { outcome = h .outcome; tokenCount = refl; errorCount = h .errorCount; nodeCount = h .nodeCount; first = h .first; tokens-kept = tokens-same; errors-kept = h .errors-same; nodes = λ u. h .nodes }
@@ -261,7 +261,7 @@ module _ (d : Result) (w : Well d) (t e n : List ℕ) (tf : length (d .tokens) �
       N : List ℕ
       N = nodesAfter (d .outcome) n
 
-      at : (x : Bool) → Rest t e n (pickReading x (λ _. joined (d .tokenCount) T (parsed T (d .errorCount) E N)) λ _. refused (enteredAfter d t e n))
+      at : (x : Bool) → Rest t e n (readBy x (enteredAfter d t e n))
       at true =
           let k = parsed-errors-kept T (d .errorCount) E N in
           let r = parsed T (d .errorCount) E N in
@@ -317,6 +317,6 @@ reading-read way s t e n l x =
         parse o h true q = outcome-read o h q
         parse o h false q = q
 
-        at : (x : Bool) → unread (pickReading x (λ _. joined (d .tokenCount) T (parsed T (d .errorCount) E N)) (λ _. refused (enteredAfter d t e n)) .outcome) ≡ false
+        at : (x : Bool) → unread (readBy x (enteredAfter d t e n) .outcome) ≡ false
         at true = parse (parsed T (d .errorCount) E N .outcome) (parsed-outcome T (d .errorCount) E N) (unread (parsed T (d .errorCount) E N .outcome)) refl
         at false = u

@@ -1,5 +1,5 @@
 -- `steps::rest` meets its contract. Assumes nothing.
-use mathlib.Core.Path.{_≡_, sym, ap, _∙_}
+use mathlib.Core.Path.{sym, ap, _∙_}
 use borrow.Author.Needs.{needs}
 use Rattle.steps.specs.Steps.{left, leaving}
 use Rattle.steps.proofs.Cases.{rest-ends, rest-stays}
