@@ -37,7 +37,7 @@ pickReading false a b = b tt
 abbrev pub readBy : Bool → Entered → Reading
 readBy b d = pickReading b (λ _. joined (d .tokenCount) (d .tokens) (parsed (d .tokens) (d .errorCount) (d .errors) (d .nodes))) λ _. refused d
 
--- it is parsed where lexing reached its end
+-- it is parsed where its outcome is 0
 abbrev pub readAfter : Entered → Reading
 readAfter d = readBy (eqb (d .outcome) ended) d
 

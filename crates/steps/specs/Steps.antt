@@ -56,7 +56,7 @@ begunBy b p d =
     pickCall b (λ _. restOf (d .tokens) (fresh p (d .tokenCount) (d .errorCount)) (d .errors) (d .nodes)) λ _.
     left (leaving (markedAs 1 (d .outcome) (fresh p (d .tokenCount) (d .errorCount)))) (d .tokens) (d .errors) (d .nodes)
 
--- it is read where lexing reached its end
+-- it is read where its outcome is 0
 abbrev pub begunAfter : Parser → Entered → Called
 begunAfter p d = begunBy (eqb (d .outcome) outcomes.ended) p d
 
