@@ -1,10 +1,7 @@
 //! Whole readings at their limits: rooms, levels, counts and lengths.
 
 use expected::records::{LONGEST, WIDTHS};
-use expected::scripts::{
-    around, many, LEFT_OF_EQUAL, MESSAGES, MISLEXED, MORE_WAYS, NEWLINES, SMALL, STARS, UNSTARRED,
-    WAYS, WORKED,
-};
+use expected::scripts::{around, many, LISTED, MISLEXED, MORE_WAYS, SMALL, WAYS};
 use oracle::logged::LEVELS;
 
 use crate::compare::Trial;
@@ -74,16 +71,8 @@ pub fn exact(source: &[u8]) -> Trial {
 
 /// The scripts of document 01, and those that the definition is tried on.
 pub fn listed() -> impl Iterator<Item = Vec<u8>> {
-    let plain = [
-        STARS,
-        UNSTARRED,
-        WORKED,
-        MESSAGES,
-        NEWLINES,
-        LEFT_OF_EQUAL,
-        MISLEXED,
-    ];
-    let plain = plain.into_iter().flatten().map(|text| text.to_string());
+    let plain = LISTED.into_iter().chain([MISLEXED]).flatten();
+    let plain = plain.map(|text| text.to_string());
     let small = SMALL.iter().map(|(text, ..)| text.to_string());
     // A character stands for a byte there.
     plain

@@ -223,6 +223,9 @@ pub const SMALL: &[(&str, u32, [usize; 3], [usize; 3])] = &[
     ("#\u{ed}\u{a0}\u{80}\n", 3, [3, 3, 3], [0, 0, 0]),
 ];
 
+/// The lists so far: scripts that are read with room enough.
+pub const LISTED: [&[&str]; 6] = [STARS, UNSTARRED, WORKED, MESSAGES, NEWLINES, LEFT_OF_EQUAL];
+
 /// Scripts whose lexing records errors, and some whose lexing doesn't, or ends before its end: what the
 /// two ways of a reading make of them.
 pub const MISLEXED: &[&str] = &[

@@ -1,15 +1,12 @@
 //! Node records unfold to the original's trees, and a wrong record is noticed.
 
 use expected::records::{node, Node, NODE_WORDS};
-use expected::scripts::{
-    around, many, LEFT_OF_EQUAL, MESSAGES, MORE_WAYS, NEWLINES, STARS, UNSTARRED, WAYS, WORKED,
-};
+use expected::scripts::{around, many, LISTED, MORE_WAYS, WAYS, WORKED};
 use expected::whole::Whole;
 use oracle::on_large_stack;
 
 fn listed() -> impl Iterator<Item = &'static str> {
-    let lists = [STARS, UNSTARRED, WORKED, MESSAGES, NEWLINES, LEFT_OF_EQUAL];
-    lists.into_iter().flatten().copied()
+    LISTED.into_iter().flatten().copied()
 }
 
 #[test]

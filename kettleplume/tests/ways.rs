@@ -28,15 +28,8 @@ const CASES: [Case; 8] = [
     ("", [0, 1, 0, 0, 0], [0, 1, 0, 0, 0], 0),
 ];
 
-fn numbers(answer: Answer) -> [u32; 5] {
-    let Answer {
-        outcome,
-        tokens,
-        errors,
-        nodes,
-        first,
-    } = answer;
-    [outcome, tokens, errors, nodes, first]
+fn numbers(a: Answer) -> [u32; 5] {
+    [a.outcome, a.tokens, a.errors, a.nodes, a.first]
 }
 
 #[test]

@@ -6,10 +6,7 @@ use std::fmt::Write as _;
 use expected::dice::Dice;
 use expected::maker::Maker;
 use expected::records::{way, WIDTHS};
-use expected::scripts::{
-    around, LEFT_OF_EQUAL, MESSAGES, MISLEXED, MISLEXED_SMALL, NEWLINES, SMALL, STARS, UNSTARRED,
-    WAYS, WORKED,
-};
+use expected::scripts::{around, LISTED, MISLEXED, MISLEXED_SMALL, SMALL, WAYS};
 use expected::whole::{known, Answer, Known};
 use oracle::on_large_stack;
 
@@ -55,8 +52,8 @@ pub fn vectors() -> Vectors {
 impl Vectors {
     /// Scripts that each show something, in tables of just the size.
     fn listed(&mut self) {
-        for text in [STARS, UNSTARRED, WORKED, MESSAGES, NEWLINES, LEFT_OF_EQUAL] {
-            text.iter().for_each(|text| self.exact(text));
+        for text in LISTED.into_iter().flatten() {
+            self.exact(text);
         }
     }
 

@@ -21,6 +21,10 @@ endedWrong outcome errors = eqb outcome ended && ltb 0 errors
 abbrev pub outcomeOn : ℕ → ℕ → ℕ → ℕ
 outcomeOn way outcome errors = cond (eqb way stop && endedWrong outcome errors) notParsed outcome
 
--- what a lexing comes to on a way: all that is kept stays
+-- a lexing with that outcome: all that it keeps stays
+abbrev pub withOutcome : ℕ → Result → Result
+withOutcome outcome d = record { outcome = outcome; tokenCount = d .tokenCount; errorCount = d .errorCount; tokens = d .tokens; errors = d .errors }
+
+-- what a lexing comes to on a way
 abbrev pub onWay : ℕ → Result → Result
-onWay way d = record { outcome = outcomeOn way (d .outcome) (d .errorCount); tokenCount = d .tokenCount; errorCount = d .errorCount; tokens = d .tokens; errors = d .errors }
+onWay way d = withOutcome (outcomeOn way (d .outcome) (d .errorCount)) d

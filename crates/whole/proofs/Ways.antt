@@ -9,7 +9,7 @@ use borrow.Author.Tests.{eqb-true, eq-eqb, ne-eqb, ltb-true, lt-ltb, le-ltb, le-
 use lib.Dec.{eqb, ltb}
 use Rattle.records.specs.Table.{room, tokenWidth, errorWidth}
 use Rattle.lexer.specs.Lex.{Result, lexedOf}
-use Rattle.entry.specs.Ways.{stop, goOn, endedWrong}
+use Rattle.entry.specs.Ways.{stop, goOn, endedWrong, withOutcome}
 use Rattle.entry.specs.Entry.{enteredAfter, entered}
 use Rattle.entry.specs.Reading.{Reading, pickReading, readAfter, reading}
 use Rattle.whole.specs.Ways.{isFinal, Stops, unparsed}
@@ -26,7 +26,7 @@ module _ (s t e n : List ℕ) where
 
   -- the reading, where the outcome that its lexing came to is 11 if b holds
   abbrev by : Bool → Reading
-  by b = readAfter (enteredAfter (record { outcome = cond b 11 (d .outcome); tokenCount = d .tokenCount; errorCount = d .errorCount; tokens = d .tokens; errors = d .errors }) t e n)
+  by b = readAfter (enteredAfter (withOutcome (cond b 11 (d .outcome)) d) t e n)
 
   -- any way, by whether it stops
   on-way : (way : ℕ) (b : Bool) → eqb way stop && test ≡ b → reading way s t e n ≡ by b

@@ -5,9 +5,7 @@ use std::path::Path;
 
 use expected::dice::Dice;
 use expected::maker::Maker;
-use expected::scripts::{
-    around, many, LEFT_OF_EQUAL, MESSAGES, MORE_WAYS, NEWLINES, STARS, UNSTARRED, WAYS, WORKED,
-};
+use expected::scripts::{around, many, LISTED, MISLEXED, MORE_WAYS, WAYS};
 use expected::spellings::{BETWEEN, NUMBERS, STRINGS};
 
 /// How many scripts are made at random.
@@ -15,16 +13,8 @@ const MADE: usize = 6_000;
 
 /// Scripts that each show something, a surveyor's, and made ones.
 pub fn scripts() -> Vec<String> {
-    let lists = [
-        STARS,
-        UNSTARRED,
-        WORKED,
-        MESSAGES,
-        NEWLINES,
-        LEFT_OF_EQUAL,
-        LEXED,
-    ];
-    let mut scripts: Vec<String> = lists.into_iter().flatten().map(|s| s.to_string()).collect();
+    let lists = LISTED.into_iter().chain([LEXED, MISLEXED]).flatten();
+    let mut scripts: Vec<String> = lists.map(|s| s.to_string()).collect();
     for &(open, most, inner, close) in WAYS.iter().chain(MORE_WAYS) {
         // Up to the last level, and one more.
         scripts.extend([most, most + 1].map(|count| around(open, count, inner, close)));
