@@ -1,5 +1,6 @@
 -- Demand 3: what may be blacked out does not change the reading. Assumes nothing.
 use mathlib.Core.Path.{_≡_, sym, ap, subst, _∙_}
+use mathlib.Core.Bool.{true, not}
 use mathlib.Core.List.{List}
 use Prim.Native.Nat.{ℕ, _<_}
 use native.Mathlib.Omega.{arith}
@@ -7,9 +8,10 @@ use borrow.Author.Tests.{lt-ltb}
 use lib.Dec.{T}
 use lib.ListN.{length}
 use Rattle.text.specs.Text.{isText}
+use Rattle.rules.specs.Rules.{known}
 use Rattle.records.specs.Table.{room, tokenWidth, errorWidth}
 use Rattle.items.specs.declared.Item.{Item}
-use Rattle.lexer.specs.Lex.{Result, emit, fresh, refusal, lexed, lexedOf}
+use Rattle.lexer.specs.Lex.{Result, emit, fresh, refusal, pickResult, lexed, lexedOf}
 use Rattle.parser.specs.Whole.{parsed}
 use Rattle.entry.specs.Ways.{onWay}
 use Rattle.entry.specs.Entry.{over, enteredAfter}
@@ -21,45 +23,46 @@ use Rattle.blackout.proofs.Near.{is-true}
 use Rattle.blackout.proofs.Items.{items-alike}
 
 -- lexing, with any rooms: the same outcome, counts and every word of the kept tokens and errors
-pub lexed-same : (s r : List ℕ) (tokenRoom errorRoom : ℕ) → T (alike s r) → lexed s tokenRoom errorRoom ≡ lexed r tokenRoom errorRoom
+pub lexed-same : (rule : ℕ) (s r : List ℕ) (tokenRoom errorRoom : ℕ) → T (alike rule s r) → lexed rule s tokenRoom errorRoom ≡ lexed rule r tokenRoom errorRoom
 unfolding lexed
-lexed-same s r a b h = ap (λ (x : List Item). emit a b x fresh) (items-alike s r h)
+lexed-same rule s r a b h = ap (λ (x : List Item). emit a b x fresh) (items-alike rule s r h)
 
 -- the same with the limit and the text test before it
-pub lexedOf-same : (s r : List ℕ) (tokenRoom errorRoom : ℕ) → Blackout s r → lexedOf s tokenRoom errorRoom ≡ lexedOf r tokenRoom errorRoom
+pub lexedOf-same : (rule : ℕ) (s r : List ℕ) (tokenRoom errorRoom : ℕ) → Blackout rule s r → lexedOf rule s tokenRoom errorRoom ≡ lexedOf rule r tokenRoom errorRoom
 unfolding lexedOf
-lexedOf-same s r a b h =
+lexedOf-same rule s r a b h =
     let l : length s ≡ length r = h .equal-length in
     let t : isText s ≡ isText r = is-true (isText s) (h .first-text) ∙ sym (is-true (isText r) (h .second-text)) in
-    let x : lexed s a b ≡ lexed r a b = lexed-same s r a b (h .differs-only) in
+    let x : lexed rule s a b ≡ lexed rule r a b = lexed-same rule s r a b (h .differs-only) in
     cc
 
 -- parsing what was lexed: the same outcome, counts, first statement, errors and nodes
-pub parsed-same : (s r t e n : List ℕ) (tokenRoom errorRoom : ℕ) → Blackout s r
-    → parsed (over (lexedOf s tokenRoom errorRoom .tokens) t) (lexedOf s tokenRoom errorRoom .errorCount) (over (lexedOf s tokenRoom errorRoom .errors) e) n
-    ≡ parsed (over (lexedOf r tokenRoom errorRoom .tokens) t) (lexedOf r tokenRoom errorRoom .errorCount) (over (lexedOf r tokenRoom errorRoom .errors) e) n
-parsed-same s r t e n a b h = ap (λ (d : Result). parsed (over (d .tokens) t) (d .errorCount) (over (d .errors) e) n) (lexedOf-same s r a b h)
+pub parsed-same : (rule : ℕ) (s r t e n : List ℕ) (tokenRoom errorRoom : ℕ) → Blackout rule s r
+    → parsed rule (over (lexedOf rule s tokenRoom errorRoom .tokens) t) (lexedOf rule s tokenRoom errorRoom .errorCount) (over (lexedOf rule s tokenRoom errorRoom .errors) e) n
+    ≡ parsed rule (over (lexedOf rule r tokenRoom errorRoom .tokens) t) (lexedOf rule r tokenRoom errorRoom .errorCount) (over (lexedOf rule r tokenRoom errorRoom .errors) e) n
+parsed-same rule s r t e n a b h = ap (λ (d : Result). parsed rule (over (d .tokens) t) (d .errorCount) (over (d .errors) e) n) (lexedOf-same rule s r a b h)
 
--- the whole reading, on the same way, into the same tables: the same answer, and every word of all three
-pub reading-equal : (way : ℕ) (s r t e n : List ℕ) → Blackout s r → reading way s t e n ≡ reading way r t e n
+-- the whole reading, by the same rule and on the same way, into the same tables: the same answer, and every word of all three
+pub reading-equal : (rule way : ℕ) (s r t e n : List ℕ) → Blackout rule s r → reading rule way s t e n ≡ reading rule way r t e n
 unfolding reading
-reading-equal way s r t e n h = ap (λ (d : Result). readAfter (enteredAfter (onWay way d) t e n)) (lexedOf-same s r (room tokenWidth t) (room errorWidth e) h)
+reading-equal rule way s r t e n h = ap (λ (d : Result). readAfter rule (enteredAfter (onWay way d) t e n)) (lexedOf-same rule s r (room tokenWidth t) (room errorWidth e) h)
 
--- DEMAND 3: the whole reading, on either way, the same for both, into equally large tables, whatever they held: the same outcome, counts, first statement and
+-- DEMAND 3: the whole reading, by any rule and on any way, the same for both, into equally large tables, whatever they held: the same outcome, counts, first statement and
 -- kept records
-pub reading-same : (way : ℕ) (s r t e n t′ e′ n′ : List ℕ) → Blackout s r → length t ≡ length t′ → length e ≡ length e′ → length n ≡ length n′ → SameReading (reading way s t e n) (reading way r t′ e′ n′)
-reading-same way s r t e n t′ e′ n′ h tl el nl = subst (λ (x : Reading). SameReading (reading way s t e n) x) (reading-equal way s r t′ e′ n′ h) (reading-sizes way s t e n t′ e′ n′ tl el nl)
+pub reading-same : (rule way : ℕ) (s r t e n t′ e′ n′ : List ℕ) → Blackout rule s r → length t ≡ length t′ → length e ≡ length e′ → length n ≡ length n′ → SameReading (reading rule way s t e n) (reading rule way r t′ e′ n′)
+reading-same rule way s r t e n t′ e′ n′ h tl el nl = subst (λ (x : Reading). SameReading (reading rule way s t e n) x) (reading-equal rule way s r t′ e′ n′ h) (reading-sizes rule way s t e n t′ e′ n′ tl el nl)
 
--- and every word of the node table, for both are read
-pub nodes-same : (way : ℕ) (s r t e n t′ e′ n′ : List ℕ) → Blackout s r → length t ≡ length t′ → length e ≡ length e′ → length n ≡ length n′ → reading way s t e n .nodes ≡ reading way r t′ e′ n′ .nodes
-nodes-same way s r t e n t′ e′ n′ h tl el nl = reading-same way s r t e n t′ e′ n′ h tl el nl .nodes (reading-read way s t e n (h .within) (is-true (isText s) (h .first-text)))
+-- and every word of the node table, for both are read where the rule is known
+pub nodes-same : (rule way : ℕ) (s r t e n t′ e′ n′ : List ℕ) → known rule ≡ true → Blackout rule s r → length t ≡ length t′ → length e ≡ length e′ → length n ≡ length n′ → reading rule way s t e n .nodes ≡ reading rule way r t′ e′ n′ .nodes
+nodes-same rule way s r t e n t′ e′ n′ k h tl el nl = reading-same rule way s r t e n t′ e′ n′ h tl el nl .nodes (reading-read rule way s t e n k (h .within) (is-true (isText s) (h .first-text)))
 
 -- beyond the limit equally long scripts are refused alike, whatever they hold: of all clauses the limit alone is not needed for the same reading
-pub beyond-same : (way : ℕ) (s r t e n : List ℕ) → 65535 < length s → length s ≡ length r → reading way s t e n ≡ reading way r t e n
+pub beyond-same : (rule way : ℕ) (s r t e n : List ℕ) → 65535 < length s → length s ≡ length r → reading rule way s t e n ≡ reading rule way r t e n
 unfolding reading lexedOf
-beyond-same way s r t e n h l =
+beyond-same rule way s r t e n h l =
     let a = room tokenWidth t in
     let b = room errorWidth e in
-    let i : lexedOf s a b ≡ refusal 4 = simp (lt-ltb 65535 (length s) h) in
-    let j : lexedOf r a b ≡ refusal 4 = simp (lt-ltb 65535 (length r) (omega arith)) in
-    ap (λ (d : Result). readAfter (enteredAfter (onWay way d) t e n)) (i ∙ sym j)
+    let x = pickResult (not (known rule)) (refusal 13) (refusal 4) in
+    let i : lexedOf rule s a b ≡ x = simp (lt-ltb 65535 (length s) h) in
+    let j : lexedOf rule r a b ≡ x = simp (lt-ltb 65535 (length r) (omega arith)) in
+    ap (λ (d : Result). readAfter rule (enteredAfter (onWay way d) t e n)) (i ∙ sym j)

@@ -18,16 +18,16 @@ kept r =
     take (errorWidth * r .errorCount) (r .errors) ++
     take (nodeWidth * r .nodeCount) (r .nodes)
 
--- a reading, on the original's way, into tables that are large enough here, and held the word w
-abbrev pub readInto : ℕ → List ℕ → List ℕ
-readInto w s = kept (reading goOn s (replicate (tokenWidth * 24) w) (replicate (errorWidth * 12) w) (replicate (nodeWidth * 24) w))
+-- a reading by the rule, on the original's way, into tables that are large enough here, and held the word w
+abbrev pub readInto : ℕ → ℕ → List ℕ → List ℕ
+readInto rule w s = kept (reading rule goOn s (replicate (tokenWidth * 24) w) (replicate (errorWidth * 12) w) (replicate (nodeWidth * 24) w))
 
 -- whether pairs are read alike; the tables of the two readings held other words
 abbrev pub answers : List Pair → List Bool
 answers [] = []
-answers (pair s r p q ∷ cs) = same (readInto 7 (codes s)) (readInto 8 (codes r)) ∷ answers cs
+answers (pair rule s r p q ∷ cs) = same (readInto rule 7 (codes s)) (readInto rule 8 (codes r)) ∷ answers cs
 
 -- what the definition has to say
 abbrev pub expected : List Pair → List Bool
 expected [] = []
-expected (pair s r p q ∷ cs) = q ∷ expected cs
+expected (pair rule s r p q ∷ cs) = q ∷ expected cs

@@ -1,7 +1,7 @@
 -- Where two scripts are alike the first bytes of an item are the same byte, or two bytes of names; no test that the lexing makes of the byte behind an item tells these apart. Assumes nothing.
 use mathlib.Core.Path.{_≡_, refl, sym, ap, _∙_, subst}
 use mathlib.Core.Logic.{_⊎_, inl, inr, ⊎-elim}
-use mathlib.Core.Bool.{Bool, true, false, not, _&&_, _||_}
+use mathlib.Core.Bool.{Bool, true, false, not, _&&_, _||_, cond}
 use mathlib.Core.List.{List, [], _∷_}
 use Prim.Native.Nat.{ℕ, suc, _≤_, _<_}
 use native.Mathlib.Omega.{arith}
@@ -10,7 +10,9 @@ use lib.Dec.{T, leb, eqb, leb→le, eqb→eq}
 use lib.ListN.{take}
 use lib.Ieee.Fits.{and-l}
 use Rattle.token.specs.Keyword.{keywordOf}
-use Rattle.spans.specs.Span.{isAlpha, isDigit, isInner, run}
+use Rattle.spans.specs.declared.Class.the-variants as classes
+use Rattle.spans.specs.Span.{isAlpha, isDigit, isInner, inClass, run}
+use Rattle.rules.specs.Rules.{isTwo, isNamed}
 use Rattle.strings.specs.declared.Ended.{Ended}
 use Rattle.strings.specs.declared.Ended.the-variants.{Closed, Broken}
 use Rattle.strings.specs.Strings.{readOf, begun}
@@ -39,16 +41,24 @@ name-from x t =
 pub Steady : (ℕ → Bool) → Type 0
 Steady p = (x y : ℕ) → T (isAlpha x) → T (isAlpha y) → p x ≡ p y
 
-pub steady-name : Steady isAlpha
-unfolding Steady
-steady-name x y h k = is-true (isAlpha x) h ∙ sym (is-true (isAlpha y) k)
-
 low-digit : (x : ℕ) → T (isAlpha x) → isDigit x ≡ false
 low-digit x h = let g = name-from x h in simp (le-leb 48 x (omega arith), lt-leb x 57 (omega arith))
 
 pub steady-digit : Steady isDigit
 unfolding Steady
 steady-digit x y h k = low-digit x h ∙ sym (low-digit y k)
+
+-- a letter goes on with a name by every rule
+named : (rule x : ℕ) → T (isAlpha x) → isNamed rule x ≡ true
+named rule x h = at (isTwo rule)
+  where
+    at : (b : Bool) → inClass (cond b classes.Word classes.Name) x ≡ true
+    at true = ap (λ (c : Bool). c || isDigit x) (is-true (isAlpha x) h)
+    at false = is-true (isAlpha x) h
+
+pub steady-name : (rule : ℕ) → Steady (isNamed rule)
+unfolding Steady
+steady-name rule x y h k = named rule x h ∙ sym (named rule y k)
 
 pub steady-is : (n : ℕ) → n < 65 → Steady (λ (x : ℕ). eqb x n)
 unfolding Steady
@@ -98,28 +108,30 @@ pair-cases P k l s w m n = at s
     at [] = alone (eqb k 0)
     at (x ∷ u) = two (eqb x 61)
 
--- an item that is no name keeps its first byte
-pub begins : (z : Class) (b c : ℕ) (s r : List ℕ) → T (mayBegin (placeOf (itemAs z b s)) (sizeOf (itemAs z b s)) b c r) → (b ≡ c) ⊎ ((z ≡ letter) × T (isAlpha c))
-begins letter b c s r h = go (eqb (keywordOf (b ∷ take (run isAlpha s) s)) 25) h
-  where
-    go : (t : Bool) → T (mayBegin (pickPlace t name other) (suc (run isAlpha s)) b c r) → (b ≡ c) ⊎ ((letter ≡ letter) × T (isAlpha c))
-    go true h = inr (refl, and-l (isAlpha c) (eqb (keywordOf (c ∷ take (run isAlpha s) r)) 25) h)
-    go false h = inl (eqb→eq b c h)
-begins digit b c s r h = inl (eqb→eq b c h)
-begins (sign Newline) b c s r h = inl (eqb→eq b c h)
-begins (sign Blank) b c s r h = inl (eqb→eq b c h)
-begins (sign Hash) b c s r h = inl (eqb→eq b c h)
-begins (sign Quote) b c s r h = inl (eqb→eq b c (go (readOf s begun) h))
-  where
-    go : (x : Ended) → T (mayBegin (placeOf (textItem x)) (sizeOf (textItem x)) b c r) → T (eqb b c)
-    go (Closed n m l) h = h
-    go (Broken n m) h = h
-begins (sign (Single k)) b c s r h = inl (eqb→eq b c h)
-begins (sign (Pair k l)) b c s r h = inl (eqb→eq b c (pair-cases (λ x. T (mayBegin (placeOf x) (sizeOf x) b c r) → T (eqb b c)) k l s (λ t. t) (λ t. t) (λ t. t) h))
-begins (sign Illegal) b c s r h = inl (eqb→eq b c h)
+-- ---- by the rule
+module _ (rule : ℕ) where
+  -- an item that is no name keeps its first byte
+  pub begins : (z : Class) (b c : ℕ) (s r : List ℕ) → T (mayBegin (placeOf (itemAs rule z b s)) (sizeOf (itemAs rule z b s)) b c r) → (b ≡ c) ⊎ ((z ≡ letter) × T (isAlpha c))
+  begins letter b c s r h = go (eqb (keywordOf (b ∷ take (run (isNamed rule) s) s)) 25) h
+    where
+      go : (t : Bool) → T (mayBegin (pickPlace t name other) (suc (run (isNamed rule) s)) b c r) → (b ≡ c) ⊎ ((letter ≡ letter) × T (isAlpha c))
+      go true h = inr (refl, and-l (isAlpha c) (eqb (keywordOf (c ∷ take (run (isNamed rule) s) r)) 25) h)
+      go false h = inl (eqb→eq b c h)
+  begins digit b c s r h = inl (eqb→eq b c h)
+  begins (sign Newline) b c s r h = inl (eqb→eq b c h)
+  begins (sign Blank) b c s r h = inl (eqb→eq b c h)
+  begins (sign Hash) b c s r h = inl (eqb→eq b c h)
+  begins (sign Quote) b c s r h = inl (eqb→eq b c (go (readOf s begun) h))
+    where
+      go : (x : Ended) → T (mayBegin (placeOf (textItem x)) (sizeOf (textItem x)) b c r) → T (eqb b c)
+      go (Closed n m l) h = h
+      go (Broken n m) h = h
+  begins (sign (Single k)) b c s r h = inl (eqb→eq b c h)
+  begins (sign (Pair k l)) b c s r h = inl (eqb→eq b c (pair-cases (λ x. T (mayBegin (placeOf x) (sizeOf x) b c r) → T (eqb b c)) k l s (λ t. t) (λ t. t) (λ t. t) h))
+  begins (sign Illegal) b c s r h = inl (eqb→eq b c h)
 
-pub near : (p : Place) (b c : ℕ) (s r : List ℕ) → T (alikeFrom p (b ∷ s) (c ∷ r) 0) → Near b c
-unfolding Near
-near p b c s r h =
-    ⊎-elim (λ e. inl e) (λ g. inr (letter-name b (g .0), g .1))
-    (begins (classOf b) b c s r (and-l (mayBegin (placeOf (itemOf b s)) (sizeOf (itemOf b s)) b c r) (alikeFrom (placeOf (itemOf b s)) s r (less (sizeOf (itemOf b s)))) h))
+  pub near : (p : Place) (b c : ℕ) (s r : List ℕ) → T (alikeFrom rule p (b ∷ s) (c ∷ r) 0) → Near b c
+  unfolding Near
+  near p b c s r h =
+      ⊎-elim (λ e. inl e) (λ g. inr (letter-name b (g .0), g .1))
+      (begins (classOf b) b c s r (and-l (mayBegin (placeOf (itemOf rule b s)) (sizeOf (itemOf rule b s)) b c r) (alikeFrom rule (placeOf (itemOf rule b s)) s r (less (sizeOf (itemOf rule b s)))) h))

@@ -10,14 +10,14 @@ use Rattle.text.specs.Text.{isText}
 use Rattle.blackout.specs.Blackout.{alike, blackout, Blackout}
 
 -- what the computed premise says
-pub decided : (s r : List ℕ) → T (blackout s r) → Blackout s r
+pub decided : (rule : ℕ) (s r : List ℕ) → T (blackout rule s r) → Blackout rule s r
 unfolding blackout
-decided s r h =
+decided rule s r h =
     let a = leb (length s) 65535 in
     let b = eqb (length s) (length r) in
-    let f : T (b && (isText s && (isText r && alike s r))) = and-r a _ h in
-    let g : T (isText s && (isText r && alike s r)) = and-r b _ f in
-    let i : T (isText r && alike s r) = and-r (isText s) _ g in
+    let f : T (b && (isText s && (isText r && alike rule s r))) = and-r a _ h in
+    let g : T (isText s && (isText r && alike rule s r)) = and-r b _ f in
+    let i : T (isText r && alike rule s r) = and-r (isText s) _ g in
     record {
       within = leb→le (length s) 65535 (and-l a _ h);
       equal-length = eqb→eq (length s) (length r) (and-l b _ f);
@@ -27,9 +27,9 @@ decided s r h =
     }
 
 -- and where each clause holds it says so
-pub computed : (s r : List ℕ) → Blackout s r → T (blackout s r)
+pub computed : (rule : ℕ) (s r : List ℕ) → Blackout rule s r → T (blackout rule s r)
 unfolding blackout
-computed s r h =
+computed rule s r h =
     and-i (leb (length s) 65535) _ (le→leb (length s) 65535 (h .within))
     (and-i (eqb (length s) (length r)) _ (subst (λ (n : ℕ). T (eqb (length s) n)) (h .equal-length) (eqb-refl (length s)))
     (and-i (isText s) _ (h .first-text) (and-i (isText r) _ (h .second-text) (h .differs-only))))

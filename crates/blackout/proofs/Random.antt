@@ -11,306 +11,306 @@ use Rattle.blackout.proofs.Trials.{Both, both, premises, verdicts}
 
 abbrev pairs : List Both
 pairs =
-    both "fn \n c ( \n \n super_ \n ) a { \n >= \"\" #!\n " "fn \n c ( \n \n retnrn \n ) o { \n >= \"\" #!\n " true ∷
-    both "00900719P25\\74090" "\\09<0,19P25\\74090" false ∷
-    both "break \n for let " "break \n for let " true ∷
-    both "not + " "not + " true ∷
-    both "\"b c\\nð\u{9f}\u{98}\u{80}\"\r\nfoA\t)" "\"b c\\nð\u{9f}\u{98}\u{80}\"\r\n<(A\t)" false ∷
-    both "{ssup\"ern" "{this\"ern" false ∷
-    both "NIL#\nb cÃ©\ntbis[continueo" "NIL(\nb cÃ©\n);is[continueo" false ∷
-    both "#b c\0\u{7f}\n_\t(wnile!!=\r\"\\t\"" "#\nß¿\\'\nn\t(aterA!!=\r\"\\t\"" false ∷
-    both "\n ) #_'\n \n " "\n ) #=#\n \n " true ∷
-    both "class elsez < b { \n " "class aA_aa < _ { \n " true ∷
-    both "! elif " "! elif " true ∷
-    both "thisz\t\"b c\"Ã\u{9f}ifâ\u{82}¬0" "farse\t\"ï¿¿\"Ã\u{9f}ifâ\u{82}¬0" true ∷
-    both "#a\n this * " "a_\n this * " false ∷
-    both "fn ( a , LET ) n \n " "fn (\na , LET )\tn \nZ" false ∷
-    both "\"ô\u{8f}¿¿Ã\u{9f}\\\" \n #\t\t\0\n ( #\n " "\"ô\u{8f}¿¿Ã\u{9f}\\\" \n #\t\t\0\n ( #\n " true ∷
-    both "f\\or\r\"#\u{7f}Ã©\t\"\r\n" "f\\9r\r\"#\u{7f}Ã©\t\"\r\n" false ∷
-    both ";#\n\r\nclasst\"\\\\\0â\u{80}¨Ã\u{9f}\":nifo>=" ";#\n\r\nclasst\"\\\\\0â\u{80}¨Ã\u{9f}\":t.is>=" false ∷
-    both "c [ 1 : b ] ( \n " "c [ 1 : b ] ( \n " true ∷
-    both "#\0!\n  0.09007199254\"74099\u{8}\t@|}\"Ã\u{9f}" "#Z \n  0.09007199254\" (Ã\u{9f}!\t.\\#@\"Ã\u{9f}" false ∷
-    both "superfor " "sontinue " true ∷
-    both "and 1 " "and 1 " true ∷
-    both "if c = a ( b ) { break } \n " "if o = a ( s ) { break } \n " true ∷
-    both ", \0not\r\u{c}" ", \0not\rZ" false ∷
-    both "\"\"ÙREAK#" "\"\"ÙbEAK#" false ∷
-    both "return " "retbrn " false ∷
-    both "\"\\ð\u{9f}\u{98}\u{80}%or" "\"9ð\u{9f}\u{98}\u{80}%ar" false ∷
-    both "219. 9007199254740991\r\nfr/" "219. 90 7199254740991#\nfr/" false ∷
-    both "for\r\n[ " "for\r\n[ " true ∷
-    both "b . , RETURN ##'\n " "r . , steara #(!\n " true ∷
-    both "fn b ( contin ) { " "fn b ( noenon ) { " true ∷
-    both "( \n ( b ) \n ) \n \n . a #_\"a'\n \n " "( \n ( a ) \n ) \n \n . _ #\"} #\n \n " true ∷
-    both "\n \n " "\n \n " true ∷
-    both "-\r<=\"â\u{82}¬!\"\r#[\t\"Ã\u{9f}\"  " "-\rx=\"â\u{82}¬!\"\r#[\t\"Ã\u{9f}\"  " false ∷
-    both "\u{c} \"1.5\\rÃ©i" "\u{c} \"1.5\\rÃ©i" true ∷
-    both "cl\u{1f}s\r\nfalse147\r" "fe\u{1f}f\r\nfalse147\r" true ∷
-    both "\"\tâ\u{82}¬\t 0.00771270122758  " "\"\tâ\u{82}¬) 0.0<77 270122758  " false ∷
-    both "( if false : ) < fn \n try elif " "( if false : ) < fn \n tryaelaf " false ∷
-    both "}\n\r$  " "_\n\r$< " false ∷
-    both "\n [ \n b " "\n [ \n b " true ∷
-    both "1791.86742100000.\"\"\u{7f}(\r\n9007.199254740991" "1791.86742100000.\"\"\u{7f}(\r\n9007.199254740991" true ∷
-    both "\"\\nb cÃ\u{9f}\0\"\\900719954740407catch" "\"\\nß¿=_Z\r\"\\900719954740407catch" true ∷
-    both "`\r\nclas\n2\t\"\r\nfor#\n#\n\r\"44.7134</\r" "`\r\nasA_\n2\ta(\n@\u{7f}Ã\u{9f}\n.\na\"44.7134</\r" false ∷
-    both "#0!\n!=\rthissuper\tfn#\n\r#this_n\n\\n\n<\r" "#0!\n!=\rth@ssuper\tfn#\n\r#this_n\n\\n\n<\r" false ∷
-    both "\n?0.  " "\n?0.  a" false ∷
-    both "whilebbreak\tni\r#\0\r\n\r\"â\u{80}¨â\u{80}¨\"\n" "whilebbreak\tni\r#\0\ra\r\"â\u{80}¨â\u{80}¨\"\n" false ∷
-    both "[ \n \n \n #'\n - #\n \n a #Z\t\n " "[ \n \n \n #\t\n - #\n \n f =Z\r\n " false ∷
-    both "\n continue #\n " "\n conti=ue #\n " false ∷
-    both "an<=\"Ã©\t\"super097689%4or<tnd  " "sr<=\"Ã©\t\"super097689%4or<ato  \n" false ∷
-    both "{ b : a , brea : reak } . a #\n " "{ i : n , brea : erue } . _ #\n " true ∷
-    both "} " "}(" false ∷
-    both "return classbreak { } . thiZ #\n let b " "return classbreak { } . th<Z #\n let b " false ∷
-    both "b ( ) = { b a } * and_ \n - \"\\nâ\u{80}¨\\n\" \n " "b ( ) = { b aZ} * and_ \n - \"\\nâ\u{80}¨\\n\" \n " false ∷
-    both "false , " "false , " true ∷
-    both "continue \n #\"(#(\n " "continue \n #\"aaa\n " true ∷
-    both "+ a " "+ e " true ∷
-    both ";000100000000000.\t\"\0â\u{82}¬Ã©\"$" ";000100000000000.\t\"\0â\u{82}¬Ã©\"$" true ∷
-    both "or ; } == { " "or ; } == { a" false ∷
-    both "! c " "! 9\\" false ∷
-    both "%`\0" "%`\0" true ∷
-    both "/  ^{\r{\0 nbreaforFALSE#â\u{80}¨0\0\n\r\n>=" "/  ^{\r{\0 rsfAsra_AfrtA#\"a\tß¿\n\r\n>=" true ∷
-    both "return #\tß¿\n \n for let " "return #\tß¿\n \n for let " true ∷
-    both "{ 1 or in [ : #.\n \n a " "{ 1 or in [ : #\n\n \n r " false ∷
-    both "return #Â\u{80}_=\n #.\r\n " "return #\"aZ'\n #Ã\u{9f}\n " true ∷
-    both ">= \n break " ">= \n br\\ak=" false ∷
-    both "snddt 0.0" "snddt 0.0" true ∷
-    both "brea\u{5}Zels" "breaxZel," false ∷
-    both "\n c " "\n e " true ∷
-    both "== #!!\n " "== #\0\0\n " true ∷
-    both ">=" ">=" true ∷
-    both "} " "=Z" false ∷
-    both "'\r\nand\r" "'\r\nand\r" true ∷
-    both "cat \"\\\"Ã\u{9f}b c\" " "not \"\\\"'\u{7f}=aa\" " false ∷
-    both "a \n : \n : \n \n " "a \n : \n :b\n \n " false ∷
-    both "in 9007199254.740991\r\n;tryf\r" "nn 9007x99254.740991\r\n;tryf\r" false ∷
-    both "?00.000034706428545707\"116" "?00.;0b034706428545707\"116" false ∷
-    both "not\u{7f}sup\tfalsezelsesuper\n\r" "not\u{7f}rfo\tAZinArrAeeZZAaZ\n\r" true ∷
-    both "false\r000000000000000010" "false.0000;0000000000010" false ∷
-    both "0.00000000000000000100000\rfn  " "0.00000000000000000100000\rfn  " true ∷
-    both "} / % [ \n le catch == \n #@\n " "} / % [ \n le catnh == \n #@\n " false ∷
-    both "#\n\n\tn\"  #if" "#\n\n\tn\"  #ifa" false ∷
-    both "let - \n " "let - \n " true ∷
-    both "!= " "!= " true ∷
-    both "true \n or : ; ) = " "true \n or : ; ) = " true ∷
-    both "class a < FN { } \n let n = c != 1 \n " "class _ < FN { } \n let n = _ != 1 \n " true ∷
-    both "}  90071992.54740993break\"#\tb c\"" "}  90071992.54740993break\"!ï¿¿_\"" true ∷
-    both "let elsenot = 1 \n " "let nt_Znnf = 1 \n " true ∷
-    both "this ( <= retarn ( a ) , b ( a , true ) " "this ( <= oteinZ ( s ) , t ( a , true ) " true ∷
-    both ") { for . let : continue " ") { f,r .=9et : continue " false ∷
-    both "in \n \n ( or return \n TRY " "in \n \n ( or return \n TRY " true ∷
-    both "breakcatch" "Zoni_ioaZa" true ∷
-    both "a = b \n try break " "a = o \n try break " true ∷
-    both "{ } \n try b catch " "{ } \n try s catch " true ∷
-    both "\"a\"whilen" "\"a\"w{ilen" false ∷
-    both "or#\n" "or#\n" true ∷
-    both "try \"\t\0b cif catch #\n a \n tinue \n #\n " "try \"\t\0b cif catch #\n a \n tinue \n #\n " true ∷
-    both "if\t9007199254740992return" "if\t9007199254740992return" true ∷
-    both "\n \n return \n " "\n \n return \n " true ∷
-    both "_hisorwhile\t;@#\n\r#\\tif\0\n\u{7f}" "oor_ArfZtai\t;@#\n\r#\\tif\0\n\u{7f}" true ∷
-    both "and\t" "and\t" true ∷
-    both "TRUEwh\"le: i\u{7f}!\"kclasstr\"y#\\r\\n\"\n" "retrrn\"!â\u{82}¬\u{7f}!\0\"ntfsoZtr\"((\\r\\n\"\n" true ∷
-    both "#Ã©\n" "#Ã©\n" true ∷
-    both "fn c ( b ] b ) #Z\n { } #\t\n " "fn c ( b ] ,x)##Z\n { } #\t\n " false ∷
-    both ":/\tnilf>=" ":/\t}ilf>=" false ∷
-    both "<=#ô\u{8f}¿¿\\r\n for\"\"\"1.5!\\\"\\t\n  CONTINUE" "<=#\u{7f}\u{7f}Ã©ß¿\n for\"\"\"1.5!\\\"\\t\n  CONTINUE" true ∷
-    both "andandsupernotÃ©:9007.199254740991\r\n" "sasrotZAAtZiZAÃ©:9007.199254740991\r\n" true ∷
-    both "class elif continue #\n class " "cla\ns el;f continue #\n clabs " false ∷
-    both "for ;  ; c BREAK #_\n " "for ;  ; c sueer #(\n " true ∷
-    both "FN<<  ifA  not\r\"0ð\u{9f}\u{98}\u{80}a1.5Ã©:\"\\\"#\\\\\n\r" "oZ<=  ifA  not\r\"0ð\u{9f}\u{98}\u{80}a1.5Ã©:\"\\\"#\\\\\n\r" false ∷
-    both "try [ catch notA c \n " "try [ catc) notA c \n " false ∷
-    both "ifn \"a\\\\if\r\"\\n\"\nwhile\"\r" "tAr \"a\\\\if\r\"\\t\"\naZ@Â\u{80}\"\r" true ∷
-    both "n c > \n \n \n false . 1 . ( = / " "f o > \n \n \n false . 1 . ( = / " true ∷
-    both "#\n continue \n \n " "#\n continue \n \n " true ∷
-    both "let \n e_se \n " "let \n _0se \n " false ∷
-    both ">= \n \n or #\0\n " ">= \n \n o\\ #\0\n " false ∷
-    both ") = orA > super a >= " ") = orA > super a != " false ∷
-    both "andcontinue26FN\r\n;\"\\tô\u{8f}¿¿\\\\\nÃ\u{9f}\"\r" "andcontinue26ao\r\n;\"\\t( Ã\u{9f}\\\\\n\0\0\"\r" true ∷
-    both "\\" "\\" true ∷
-    both "while \n ; \n return IF \n #\\}\t\n \n " "while \n ; \n return os \n #'\\=\n \n " true ∷
-    both "or " "or " true ∷
-    both "b try / , #à\u{a0}\u{80}\n catch \n super == { } " "e try / , #a=(\n catch \n super == { } " true ∷
-    both "thisCO\"NTINUE" "thisCO\"NTINUE" true ∷
-    both "( \n fuper #.\r#\r_\n \n " "( \n oZasf #._ZÃ©\n \n \n" false ∷
-    both "[ " "[ " true ∷
-    both "while false_ \"\" #\"a}\n " "while false_ \"\" #(Z@\n " true ∷
-    both "b [ b ] . OR = false \n " "n [ A ] . nr = false \n " true ∷
-    both "'\tsuuper" "'\tsuu\\er" false ∷
-    both "= \n : #\n \n elif [ if { >= continue c } " "= \n : #\n \n elif [ if { >= continue n } " true ∷
-    both "900" "\"0," false ∷
-    both "{#\\\\\na\n\t\"ð\u{9f}\u{98}\u{80}a\"\r@  ,\"\" fnbreakb" "{#'\t\nn\n\t\"a#a'\r\"\r@  ,\"\" conrinue" true ∷
-    both "break\r90071992547409.9225\t" "break\r90071992547409.9225\t" true ∷
-    both "catch\\el\"se\rÃ©r supe %\r[tsy' " "catch\\fa\"se\rÃ©r supe %\r[tsy' " true ∷
-    both "\"\"AC" "\"\"A\"" false ∷
-    both "8#\n" "8#\n" true ∷
-    both ": break ] and " ": break ] and " true ∷
-    both "/ if " "/ if " true ∷
-    both "for #Ã©\ta!\n " "for #ï¿¿'=\n " true ∷
-    both "elseclass274.0761==*]\ror  10.0000000\r\n!" "elseclass274.0761==*]\ror  10.0000000\r\n!" true ∷
-    both "\"\\.5" "\"\\.5" true ∷
-    both "c let  \n " "c let  \n " true ∷
-    both "[ nottrue not in \"\0\r\0\\r\" " "[ aot0rue not i< \"\0\r\0\\r\" " false ∷
-    both "return : \n = buper \n \n \n \n \n " "return : \n = nnAoA \n \n \n \n \n " true ∷
-    both "while e = " "whi=e b = " false ∷
-    both "/ a \n b \n ; ; " "/ f \n r \n ; ; " true ∷
-    both "a ( ) ) \n " "e ( ) ) \n " true ∷
-    both "\"nse" "\";s{" false ∷
-    both "== ; i } elif ) 2 while ) . in " "== ; t } elifr) 2 while ) . in " false ∷
-    both "ttu\\" "for\\" false ∷
-    both "1804525957 #\n\"\"} `" "1804525957 #\n\"\"} `" true ∷
-    both "while true false \n " "while tr e falsq \n " false ∷
-    both "tr #\"a'\n let classz \n " "0r #\"a'\n #et classz . " false ∷
-    both "\n ; " "\n ; " true ∷
-    both "fn ue ( b ) \n { b } \n return #\\\\#\n \n " "fn na ( r ) \n { a } \n return #\"\0\t\n \n " true ∷
-    both "9007199L54740993  (elifBB\n" "9007199L54740993  (reaurn\n" true ∷
-    both "|k" "|n" true ∷
-    both "in \n for == ; \n " "in \n for == ; \n " true ∷
-    both "{ } != \n \n " "{ } != \n \n " true ∷
-    both "fn ( ) - this \n if n { } \n " "fn ( ) - this \n if s { } \n " true ∷
-    both ")\" " "r\" " false ∷
-    both "{ \n true \n c \n } \n { w } \n " "{ \n true \n . \n } \n { s } \n " false ∷
-    both "\n try * + while continue - . " "\n try * + while continue - . " true ∷
-    both "{ } \n { for LET in true c } \n " "{ } \n { for LET in true @ } \n," false ∷
-    both "try \"\\ta\" > this #\"aZ\n ; else " "try \" ta\" > this #\u{7f}Ã\u{9f}\n ; else " false ∷
-    both "a ( forthis , nlse ) #\"aß¿.\n != SUPER " "a ( fo!this , nlse ) #\"aß¿.\n != SUPER\t" false ∷
-    both "*)= \"a\"" "*)=_\"a\"" false ∷
-    both "( \"\\t\rÃ©\" [ elift ^ a ] \n ) #'\n let c \n " "( \"\\t\rÃ©\" [ elift ^ a ] \n ) #x\n let c \n " true ∷
-    both "else\r\n" "else\r\n" true ∷
-    both "ð\u{9f}\u{98}\u{80}\"\"0.00990071992547407485\u{12}0503" "ð\u{9f}\u{98}\u{80}\"\"0.00990071992547407485\u{12}0503" true ∷
-    both "a \n " "f \n " true ∷
-    both "\00" "\00" true ∷
-    both "class #\"Ã\u{9f}\n \n a " "class #\"Ã\u{9f}\\ \n : " false ∷
-    both "] ! : let ; or } #\n IF ) c " "] ! : let a or } #\n IF #)c " false ∷
-    both "break\t;\n\r\n[9007.199254741906infn\r" "=reak\t;\n\r\n[9007.19925474\t906inbn\r" false ∷
-    both "try andreturn < a false \n " "try andreturn < a false \n\\" false ∷
-    both "break \n \n while " "break \n \n wniZe " false ∷
-    both "- #\n c / #\tZ\n c != \n c \n \n \n " "- #\n c / \\\tZ\n c != \n\nb \n \n \n " false ∷
-    both "000supeb" "000sup(b" false ∷
-    both "in" "@n" false ∷
-    both "\n@\rellse1.1792or!br\"eak{\r\n\"\"" "\n@\rasfan1.1792or!br\"ô\u{8f}¿¿\"\n\"\"" false ∷
-    both "\n \n ) >= 2 or f \"Ã©\\\\\\\"\\t\" . [ == * " "\n \n ) ,= < or f \"Ã©\\\\\\\"\\t\" . [ ==\n* " false ∷
-    both "; #à\u{a0}\u{80}\"#\n { } " "; #à\u{a0}\u{80}\"#@   } " false ∷
-    both "#00\"\n\u{7f}\\ð\u{9f}\u{98}\u{80}\"0^CATCHsuper\"\nif\t" "#00\"\n\u{7f}\\ð\u{9f}\u{98}\u{80}\"0^CATCHs\\per\"\nif\t" false ∷
-    both "#}ZZ\n { \n } \n " "#\tZZ\n { \n }n\n " false ∷
-    both "\n = true 1 if catchA { " "\n = true 1 if retarn { " true ∷
-    both "for ^ \n else break / nil \n a for \n true " "for ^ \n else brean / nil \n a for \n.true " false ∷
-    both "this#â\u{82}¬try\t\"\n  ##\t\r\n\t~\r" "tr_e#(.\0_\"a\0\0\n  #.Ã\u{9f}\n\t~\r" false ∷
-    both "] \n = " "] \n = " true ∷
-    both "#(a\"\t\n c \n ^ " "#(a\"\t, c , ^\\" false ∷
-    both "while return 2 [ a * ! " "while return 2 [ A * ! " true ∷
-    both "9007199254740993.%\"\r\\\"â\u{80}¨\\tb c\"and\r" "9097199254740Z93.%\"\r\\\"â\u{80}¨\\tb c\"and\r" false ∷
-    both "\n ] continue if #\\a\"a\n } { - " "\n ] continue if tï¿¿.\n } { - " false ∷
-    both "\\ni" "\\sr" true ∷
-    both "#â\u{80}¨#\n!<=  breakctntinue fn" "#â\u{80}¨#\n!<=  brea}ctntinue fn" false ∷
-    both "for #\"à\u{a0}\u{80}#\n 1 elif { { return " "for #\"à\u{a0}\u{80}#\n 1 elif { { retur\" " false ∷
-    both "class k { } #\"\u{7f}\n fn b ( b ) { } #}\"\"a\n " "class e { } #Â\u{80}\n fn b ( r ) { } #â\u{80}¨\0\n " true ∷
-    both "00090074\"9925\"4710469\r" "00090074\"ï¿¿\0\"4710469r" false ∷
-    both "\n #\"a=\"!\n " "\n ###\"aa\n " true ∷
-    both "ELIF ( " "ELIq (Z" false ∷
-    both "&,\"Ã\u{9f}\u{7f}#\\r\"CATCH\rle .and o" "&,\"Ã\u{9f}\u{7f}#\\\n\"CAT9H\rle .and o" false ∷
-    both "#'#=\n ; < " "#=Ã©\n ; < " true ∷
-    both "nnot\t,\n\r\nthis\r\"\\\"1.5â\u{82}¬\"" "_not\t,\n\r\nthis\r\"\\<1.5â\u{82}¬\"" false ∷
-    both "\"\"\"" "\"\"\n" false ∷
-    both "\"#\\\\\\\\\\\0\\\"\"" "\"#\\\\\\\\\\\0\\\"\"" true ∷
-    both "while\"\nÃ\u{9f}\" " "while\"\nß¿\" " true ∷
-    both "9007199254740.\\992\u{7f}" "9007199254740.\\992\u{7f}" true ∷
-    both "if " "if " true ∷
-    both "\n { his \n } continue " "\n\"{ his \n } con.inue " false ∷
-    both "let@\tclass)|^\r\nelseb\"\\n\\tð\u{9f}\u{98}\u{80}Ã\u{9f}\"" "let@\tclass)|^\r\netetZ\"\\n\\tð\u{9f}\u{98}\u{80}ß¿\"" true ∷
-    both "class continue return while \n supe " "class continue return while \n raai " true ∷
-    both "\"\u{15}\u{80}¨\\n\\rô\u{8f}¿¿\" $=orZ" "\"\u{15}\u{80}¨_n\\@ô\u{8f}¿¿\" $=or)" false ∷
-    both "this #}\0\n \n * fn = \n { \n } \n \n #ï¿¿\"a\n " "this #(.\n \n * fn = \n { \n } \n \n #\\\"a}(\n " true ∷
-    both "\u{7f}f\t~<=or  \"â\u{82}¬\"ð\u{9f}\u{98}\u{80}  #\\n\n" "\u{7f}s\t~<=or  \"â\u{82}¬\"ð\u{9f}\u{98}\u{80}  #\\#\n" true ∷
-    both "{ \n \n } \n \n 2 " "{ \n \n } \n \n 2 " true ∷
-    both "if \"\\\\\\\\0\" { } #\u{7f}a#\n let : \n " "if \"\\\\\\\\(\" { } #\"a'\n let : \n " true ∷
-    both "&\n#a\n#\n  " "&\n#a\n#\n@ " false ∷
-    both "\"0Ã\u{9f}let" "\"0Ã\u{9f}let" true ∷
-    both "- b [ if ] = b \n class LET { \n " ", b [ if ]:= b \n class LET { \n " false ∷
-    both "letnil\rif\r{ELIF\r\\\"\\ \"(\r>=continue_\r\n" "retuAn\rif\r{ttis\r\\\"\\ \"(\r>=continue_\r\n" true ∷
-    both "#\n\t\"\\\\\"\t]else" "#\n\t\"\\\\\"\t]else" true ∷
-    both "tZue = ( tr ) + 1 or b ##\"a\n " "rlif = ( fs ) + 1 or _ ##\"a\n " true ∷
-    both "c5ntin\"usuper  " "c5ntin\"@s=per q" false ∷
-    both "and" "bn," false ∷
-    both "|ss>=  continueWHILE" "|iZ>=  ZZtasZor_et_r" true ∷
-    both "class this " "Zlasb this!" false ∷
-    both "{ eliff : ELSE , b : CATCH } #\n " "{ _trsZ : trus , s : oZaff } #\n " true ∷
-    both "\n\rtnue" "\n\resif" true ∷
-    both "== \"\\\\\"#\nor`  #Ã\u{9f}\n#!\\na\"\"\r" "== \"\\\\\"#\nor`  #.\u{7f}\n#.\"a\r\"a@" true ∷
-    both "\"!\"/  TRUEnil50688596299888. ==\rreturn " "\"!\"/  TRUEnil50688596299888. ==\rre:urn " false ∷
-    both "while != nott CATCH : true \n " "while != thii ioZ_Z : true \n " true ∷
-    both "\"\tif\r\"fnclass\r\n\"b c\r\r\"\"\\n\\tb c" "\"a\t'\u{7f}\"fnclass\r\n\"ð\u{9f}\u{98}\u{80}\0\"\"\\n\\tb c" true ∷
-    both "\"Ã©\0Ã\u{9f}\"-els" "\"Zð\u{9f}\u{98}\u{80}\"-nry" true ∷
-    both "\"\"0\\^" "\"\"0\\^" true ∷
-    both "2 ] continue [ while > . - } , 1 " "2 ] continue [ while > . - } , 1 " true ∷
-    both "fnz\"B\nÃ©\0\"" "lAt\"B\nÃ©\0\"" true ∷
-    both "\"0ô\u{8f}¿¿\0if\":#â\u{80}¨ð\u{9f}\u{98}\u{80}!rthisn" "\"0ô\u{8f}¿¿\0if :#â\u{82}¬\\!=#@\r\r\"a'Z" false ∷
-    both "\n this a \n " "\n this A \n " true ∷
-    both "for ; b ; a b \n class " "for ; r ; _ e \n class " true ∷
-    both "while>=@ try  9007199254741357\t9007" "while>=@ try  90q7199254741357\t9007" false ∷
-    both "continue$class#\\\"\\\"Ã\u{9f}\u{9f}\n  urn %" "continue$class#\\\"\\\"Ã\u{9f}\u{9f}\n( urn %" false ∷
-    both "a \n ( ) = ora = b [ r <= [ \"\r\" ] ( ) " "n \n ( ) = ora = b [ r <= [ 0\r\"   ( ) " false ∷
-    both "{ [ c elif \n ( nil % " "{ [ Z elif \n ( nil % " true ∷
-    both "100000000000000\r{\r." "10000\"000000000\r{\r." false ∷
-    both "} lif ( \"aÃ©!ifÃ©\" , nil ) { c \n " "} lif ( \"aÃ©!ifÃ©\" , nin ) { c \n " false ∷
-    both "return \n \n \n " "return \n \n \n " true ∷
-    both "\"\"\\\t9007199254740896\t\\break\r\n" "\"\"\\\t9007199254740896\t\\break\r\n" true ∷
-    both "ornwhile\"\n\0â\u{80}¨\\\"Ã\u{9f}\" -#ô\u{8f}¿¿â\u{80}¨\n" "continue\"\nï¿¿#\\\"@\r\" -#ô\u{8f}¿¿â\u{80}¨\n" false ∷
-    both "#\u{7f}\t\n 0.9007199254740993tr" "#\u{7f}\t\n 0.Z00@19,254740993tr" false ∷
-    both "00090071" "00090071" true ∷
-    both "a \n % not [ \n { 1 ] b \n [ [ ( " "a \n % n\\t [ \n { 1 0 b \n [ [ ( " false ∷
-    both "0.000000000000000000000}" ",.000000000000009000000}" false ∷
-    both "whil while c ( a , \"#\\r\" ) nil \n " "ZAZZ while e ( t ( \".\\r\" ) nil \n " false ∷
-    both "tcattchhreturntrue\t" "tcattchhreturntru}\t" false ∷
-    both "\"\\\"ð\u{9f}\u{98}\u{80}\"\\i" "\"\\\"\r@\r!\"\\i" true ∷
-    both ", " "# " false ∷
-    both "b " "\" " false ∷
-    both "conttnue \n ^ a = c > OR \n " "aitenaAs \n ^ n = c > OR \n " true ∷
-    both "( ) \n " "( ) \n " true ∷
-    both "if break a } > c . for { } \n " "if break o } > c . for { } \n " true ∷
-    both "break \n class letn < b { } #\n " "break \n class letn < b { }\n#\n " false ∷
-    both "ipcontinue==classnil-else\r" "ifiinr_Zff==continus-else\r" true ∷
-    both "{ i_ : nil , elset : b } \n #_\n #ß¿\n " "{ i_ : nil , Aia_o : \n } \n #\0\n #\\!\n " false ∷
-    both "IN true\"Ã\u{9f}\"\t\"Ã\u{9f}\t\"â\u{80}¨\t\"#\n133.\t>*" "IN tr\"e\"Ã\u{9f}\"\t\"Ã\u{9f}\t\"â\u{80}¨\t\"#\n133.\t>*" false ∷
-    both "nItif\tif\"b c\t\0b  c\t  \"<" "supef\tif\"@ô\u{8f}¿¿_Â\u{80}ß¿ß¿\"<" true ∷
-    both "WHILE\"\tÃ©ô\u{8f}¿¿\"" "WHILE\"ZÃ\u{9f}â\u{82}¬=\"" true ∷
-    both "178\"\\rb c\\r\"" "178\"\\ra!_\\r\"" true ∷
-    both "6038996968986186809" "6038996968986186809" true ∷
-    both "^aatchh" "^foriri" true ∷
-    both "while elif \n ^ " "bhile elif \n ^ " false ∷
-    both "return #\t(\t \n \n " "return _\t(\t \n \n " false ∷
-    both "class . < { \n } #=\n " "fonet . < { \n } #=\n " false ∷
-    both ",}\telse\"Ã©\"" ", \telsexÃ©\"" false ∷
-    both "let b \n \n " "let o \n \n " true ∷
-    both "while fn  ) true break \n " "while fn  ) true break \n " true ∷
-    both "trueâ\u{82}¬ ,\r\n" "trueâ\u{82}¬},\r#" false ∷
-    both "a \n #\0\n \n ; \n \n break nof c \n \n \n " "r \n #=\n \n ; \n \n break nof . \n \n \n " false ∷
-    both "b [ : ] b ] = true \n a [ \n a ] \n " "n [ : ] f ] = true \n a [ \n a ] \n " true ∷
-    both "<= \n ; and } return " "<= \n ; and\\} retu(n " false ∷
-    both "##-  9.\u{1}07199254740576let`\u{7f}<=" "#!\r\"\"aô\u{8f}¿¿\0(à\u{a0}\u{80}\"a\0!\u{7f}!\"#aà\u{a0}\u{80}==" true ∷
-    both "\"eet" "\"eet" true ∷
-    both "class while : ry { } \n " "class while : Ao { } \n " true ∷
-    both "continue c { ; elif " "continue c Z ; el{f " false ∷
-    both "\n \n " "\n \n " true ∷
-    both "900" "9\t_" false ∷
-    both "let fot = thisreturn >= a \n " "let fot = thisr_turn >\\ a \t " false ∷
-    both "try catch fz true \n " "try catch ir true \n " true ∷
-    both "let c \n = a + b and : c ] #\t=#\u{7f}\n \n " "let c \n = a + b andq:)c ] )\t=#\u{7f}\n \n " false ∷
-    both "1000000#\"\n" "1000000# \n" true ∷
-    both "000" "000" true ∷
-    both "\n\r." "\n\r." true ∷
-    both "- b #}a'\n \n " "- i #(\r\t\n \n " true ∷
-    both "\"1.50\u{7f}else=\torÃ©0.this.continue%" "\"1.5{\u{7f}else=\torÃ©0.t0is.continue%" false ∷
-    both "#a\u{7f}\n \n = ! \n [ { \n catch [ for elif " "#\"a\n \n = ! \n [ { \n catch [ for elif " true ∷
-    both "for let a = n ; c ; false a \n " "for let a = n ; _ ; false _ \n " true ∷
-    both "9007199254740991or\"\rb cð\u{9f}\u{98}\u{80}0if\\ð\u{9f}\u{98}\u{80}\"" "9007199254740991or\"\rb cð\u{9f}\u{98}\u{80}0if\\ð\u{9f}\u{98}\u{80}\"" true ∷
-    both "try yRETURN\relift\"\\t\"" "try{yRETURN\relift\" n\"" false ∷
-    both "#!Ã©\n \n Aet break } catch " "#!Ã©\n \n Ae< break ; catch " false ∷
-    both "e#_ls:" "q{_l):" false ∷
-    both "; #\n #ô\u{8f}¿¿ \n <= . le * . \n " "; #\n #ô\u{8f}¿¿ \n <= . le * n \n " false ∷
-    both ",falsen" ",tAfist" true ∷
-    both "continue #'\\\r\n for ; a ; a nil \n " "continue #_.\r\n for ; r ; Z nil \n " true ∷
-    both ". : " ". : " true ∷
+    both 1 "class a { } #(\n a " "class s { } #\t\n f " true ∷
+    both 2 "#ii\ncontfnueZ\"\r==\"a0\"" "# !\ncontfnueZ\"'(\u{7f}\"fe\"" true ∷
+    both 1 "&IN\t%  #a\\n" "&_N\n%  #a\\n" false ∷
+    both 2 "\"\u{7f}0\"001689455954101continuetru" "\"ß¿\"001689455954101sr11rrfe8oA" true ∷
+    both 1 "b if #\n " "b if #\n " true ∷
+    both 2 "return \n \n \n " "return \n \n \n " true ∷
+    both 1 ";" ";" true ∷
+    both 2 "cat1ch!=thisz#!elsethis  \"1.5\\\\b c\"3.  " "c t1ch!=thisz#!elsethis  \"1.5\\\\b c\"3.  " false ∷
+    both 1 "f\\or\r\"#\u{7f}Ã©\t\"\r\n" "f\\9r\r\"#\u{7f}Ã©\t\"\r\n" false ∷
+    both 2 ";#\n\r\nclasst \"â\u{80}¨\"]FOR\t%" ";#\n\r\nclasst \"Z'a\"]fn_\t%" true ∷
+    both 1 "1for=\rsuperAforlet0.00000000000000" "1for=\r)uperAforlet0.0000000000000," false ∷
+    both 2 ";  \"\\\\\u{7f}\\n\" :le\t\"\"\r\r\nsuper  (." ";  \"\\\\#\\n\" :Z \t\"\"\r\r\nsuper  (." false ∷
+    both 1 "\"\" \"\r\" % = < ) true try let { " "\"\" \"a\" % = < ) true try let { " true ∷
+    both 2 "`\rcontinue his break\"â\u{82}¬b c\r\\t\t\"\"Ã\u{9f}]" "`\rcontinua=his b)eak\"â\u{82}¬b c\r\\t\t\"\"Ã\u{9f}]" false ∷
+    both 1 "#\n \n \n #\\ \u{7f}\n \n " "_\n \n \n<#\\ \u{7f}\n \n " false ∷
+    both 2 "{ nil } \n " "{ nilt} \n " false ∷
+    both 1 "-\r\n\"\" ( @\t\"\"while\"\\\"\0if\"\relif" "<\r\n@\" ( @\t\"\"while\"\\\"\0if\"\relif" false ∷
+    both 2 "else ; [ false " "else ; [ false " true ∷
+    both 1 "{\"\\t\n\0\\0\"\r\u{c}try\rforreturnelif\"!â\u{82}¬\\\"\t^" "{\"\\t\n\0\\0\"\u{7f}ð\u{9f}\u{98}\u{80}''\tà\u{a0}\u{80}(\ta\0\u{7f}__=\"!â\u{82}¬\\\"\t^" true ∷
+    both 2 "\n - " "\n }\\" false ∷
+    both 1 "; \n \n " "; \n \n " true ∷
+    both 2 "class a \n " "cl ss a \n\n" false ∷
+    both 1 ";\"\\n\\ra\"\r\n~\rx" ";\"\\n@ra\"\r\n~qx" false ∷
+    both 2 "\"\"" "}\"" false ∷
+    both 1 "?\r\n\"#\\r\"  orr#\"\\t\\\n" "?\r\n\"#\\r\" borr#\"\\t\\\n" false ∷
+    both 2 "class tr < b { " "class rf < a { " true ∷
+    both 1 "] \n % #\t}Ã©\n " "] \n % #\t}Ã©\n " true ∷
+    both 2 "\u{c}472632007209\"\\n\\nÃ©\\t#\"" "\u{c}472632007209\"\\n\\n=Z\\t'\"" true ∷
+    both 1 "and " "and " true ∷
+    both 2 "elifi:0010000." "ro8t9:0010000." true ∷
+    both 1 "^" "^" true ∷
+    both 2 "<=+ ]continuetryfalsethis" "<=+ ]conti uetryfalsethis" false ∷
+    both 1 "\n return " "\n return " true ∷
+    both 2 "\"\t\"\r\nfo##\nr\n\r244.71\"34" "\"_\"\r\nfo#!\ne\n\r244.71\"34" true ∷
+    both 1 "super<=\r\nand)" "super<=\r\nand)" true ∷
+    both 2 "\"\\ta\n\rH" "\"\\ta\n\rH" true ∷
+    both 1 "} " "}(" false ∷
+    both 2 "f #\0\u{7f}\t\n \n ( " "i #}ß¿\n \n ( " true ∷
+    both 1 "\n return #\t\"}\\!\n super . breakreturn \n " "\n return #\\\"\ta.\n super . _oesZeootin \n " true ∷
+    both 2 "#\t\\t\\\\\n\r\"\r\u{7f}\"let\t+" "#0\\#\\\\\nq\"\r\u{7f}\"let\t+" false ∷
+    both 1 ">\r\"ô\u{8f}¿¿!b c\"0^\t\"\\t\n\" #b câ\u{82}¬â\u{82}¬\n!\r\nif!" ">\r\"ô\u{8f}¿¿aâ\u{80}¨\"0^\t\"\\t\n\" #\\.=}\\\u{7f}_Ã©\n!\r\nif!" true ∷
+    both 2 "+#ô\u{8f}¿¿ô\u{8f}¿¿\t\n\"Ã©ifÃ\u{9f}\"\r\n}\"\"(\r\n" "+#Zâ\u{80}¨\"a}\"=\n\"(ß¿â\u{80}¨\"\r\n}\"\"(\r\n" true ∷
+    both 1 "in ##ô\u{8f}¿¿\n == { " "in #\"a \"a\n == { " true ∷
+    both 2 "0000000004407.28500\r\nnØtt" ";000000004407.28500n\n.Øtt" false ∷
+    both 1 "RETURN\"\t\"continue\r\n\"aÃ\u{9f}\"  +" "RETZRN\"\t\"{ontinue\r\n\"aÃ\u{9f}\"  +" false ∷
+    both 2 "elif\r0001000000000000\u{10}0  #!\0Ã\u{9f}\n\rZr" "elif\r0001000000000000\u{10}0  #!\0Ã\u{9f}\n\rs1" true ∷
+    both 1 "r" "o" true ∷
+    both 2 ".  FN\"\"\r\n" ". @FN\"\"\r}" false ∷
+    both 1 "= [ - b , fn ( thiselse ) a ] " "= [ - r , fn ( continut ) n ] " true ∷
+    both 2 "break for leta in a a : \n <= break \n " "break for leta (n a a :<\n <=<break \n " false ∷
+    both 1 "\",0.00" "\",0.00" true ∷
+    both 2 "super ( ) \n " "suber ; ) \n " false ∷
+    both 1 "!falsez>\"if\t1.5\" \u{c}\\\r90071992547410006;" "!retern>\" Z.\0_\u{7f}\" \u{c}\\\r90071992547410006;" true ∷
+    both 2 "{ _0 \n true } \n 1.5 " "{ _0 \n true } \n 1.5 " true ∷
+    both 1 "=#\\\"tr\\ueOR128.2\r\nfn0.23424]ifsuper" "=#\\\"tr\\ueOR128.2\r\nfn0.23424]nn\"iZ_A" false ∷
+    both 2 "\n } for e8lif 1 1 #(\n ) let for " "\n })for e8lif 1 1 #(\n,) let for " false ∷
+    both 1 "[ #\n or class for #\t\n return a / " "[ #\n or class for # \n return a / " true ∷
+    both 2 "> #\"\r(\"@\n \n < su if = } " "> #\"\r(\"@\n a < su if # } " false ∷
+    both 1 "forclass10000000000000000000" "oefet_t_10000000000000000000" true ∷
+    both 2 "a = ( true_ = eturn \n " "a = ( ss_ie = fal8e \n " true ∷
+    both 1 "this \n >= " "this \n >= " true ∷
+    both 2 "\n " "\n " true ∷
+    both 1 "this } ; not #\n ] nil false ! ) 1.5 " "this } ; not #\n ] nil false ! ) 1.5 " true ∷
+    both 2 "}  90071992.54740993break\"#\tb c\"" "}  90071992.54740993break\"!ï¿¿_\"" true ∷
+    both 1 "for " "for " true ∷
+    both 2 "return0 classelse\n\r,ors0.00000900719" "eZo9ssZ classelse\n\r,ors0.00000900719" true ∷
+    both 1 "{ } / ) \n for ; \"\0\" ; a \n thi \n " "{ } / ) \n for ; \"a\" ; a \n leZ \n " true ∷
+    both 2 "breakcatch" "Z_ni_i1a9n" true ∷
+    both 1 "= " " ." false ∷
+    both 2 ")\"\r\\t\\0\"[\t|\r\n,\r" ")\"\r\\t\\0\"[\t|\r\n,\r" true ∷
+    both 1 "31255011062588`:\rnot  elif9" "31n55011062588`: not  elif9" false ∷
+    both 2 "0000000000000000000000000000" "000(0000000<0000000000000000" false ∷
+    both 1 "while b \n a \n " "whil} b9\n a \n)" false ∷
+    both 2 "%" "\"" false ∷
+    both 1 "\n while c false + " "\n while f false + " true ∷
+    both 2 "#" "0" false ∷
+    both 1 "class el8se < \n ] { \n \n \n } \n " "cl=ss el8se < \n ] { 9 \n \n } \n " false ∷
+    both 2 "super . " "super . " true ∷
+    both 1 "{ b let [ + else " "{ A let [ + else " true ∷
+    both 2 "elifb fn ( " "tess9 fn ( " true ∷
+    both 1 "< ] ( } " ". ] ( } " false ∷
+    both 2 "#\u{7f}\n this ! super + } = " "_\u{7f}\n this ! super + } = " false ∷
+    both 1 "c or c #\\Z(@\n = \n breakb \n \n " "A or Z ##'\r}\n = \n At_eZZ \n \n " true ∷
+    both 2 "{|*urteif\"ô\u{8f}¿¿\\\\0\"if\"ifb c\u{86}©if\"#ð" "{|*ur{eif\"ô\u{8f}¿¿\\\\0\"if\"iZb c\u{86}©if\"#ð" false ∷
+    both 1 "$~\t=nil\t0" "$~\t=nil\t0" true ∷
+    both 2 "\n\u{e}\\\"" "\n\u{e}\\\"" true ∷
+    both 1 "009071992547\"40992F\0LSE" "009071992547\"40992F\0LSE" true ∷
+    both 2 "\u{7f}4134S20.<==\"\\\\â\u{80}¨\\\\\"\" #Ã©\r\"1.5\n\r" "\u{7f}4134tit.<==\"\\\\ a'\\r\"\"ô\u{8f}¿¿@\"1.5\n\r" false ∷
+    both 1 "while OR fn " "while Af fn " true ∷
+    both 2 "!\rBREAK\"â\u{80}¨\" 090071992547409.92  \"\\\\\"\ran" "!\rBREAK\"\"a'\" 090071992547409.92  \"\\\\\"\rsf" false ∷
+    both 1 "== ; fal1se } elif ) 2 while ) . in " "== ; asf1af } elif ) 2 while ) . in " true ∷
+    both 2 "\"0ð\u{9f}\u{98}\u{80}â\u{82}¬\0\" " "\"0ð\u{9f}\u{98}\u{80}â\u{82}¬\0\"\"" false ∷
+    both 1 "super\"â\u{82}¬\"\"\\\"#1.5\\ \t\"1.5aÃ©Ã©" "supe \"â\u{82}¬\"\"\\\"#1.0\\ \t\"1.5aÃ©Ã©" false ∷
+    both 2 "elift" "Aatch" true ∷
+    both 1 "return super . a " "return super . o " true ∷
+    both 2 "while ( or8 ) \n continue let \n b \n " "while ( rot ) \n continue let \n r \n " true ∷
+    both 1 "0.00000007597462576!=while[nt0" "0.00000007597462576!=while[sr0" true ∷
+    both 2 "fn ( ) - this \n true #a_!'\n " "fn ( ) - this \n true #a_!'\n " true ∷
+    both 1 "#\u{7f}\n#\n\"!ð\u{9f}\u{98}\u{80}\\\"\\t\"\\\\\"and^super0.0000016722" "#\u{7f}\n#\n\"!ð\u{9f}\u{98}\u{80}\\\"\\t\"\\\\\"and^0uper0.00000167Z2" false ∷
+    both 2 "900" "\"0," false ∷
+    both 1 "! " "n\n" false ∷
+    both 2 "\"\u{7f}\"!\u{15}$" "\"\u{7f}\"!\u{15}$" true ∷
+    both 1 "\"Uð\u{9f}\u{98}\u{80}\\ \"\t" "\"Uð\u{9f}\u{98}\u{80}\\ \"\t" true ∷
+    both 2 "break\r90071992547409.9225\t" "break\r90071992547409.9225\t" true ∷
+    both 1 "ca\\tch" "ii\\tch" true ∷
+    both 2 "this\"\t\\" "this\"\t\\" true ∷
+    both 1 "'" "Z" false ∷
+    both 2 "continue \n \n break #}\n " "continue \n \n break #@\n  " false ∷
+    both 1 ": \n if 2 \n } ( ( \n ; > { " ": \n if 2 \nq} ( ( \n ; > { " false ∷
+    both 2 "^ #a(Zß¿\n fn > \n #\n and #\"\"a\n \n not " "^ #a(Zß¿\n fn > \n #\n and <\"\"a\n \n not " false ∷
+    both 1 "< != ( : c + \n " "< != ( :   + \n " false ∷
+    both 2 "9007199254740411 [" "900(19925474x4x1 [" false ∷
+    both 1 "a #\u{7f}=\n " "# #\"a\n " false ∷
+    both 2 "\\\"\u{7f}\u{7f}\"#\n!=#\nô\r9return1798887738940\r\n" "\\\"\u{7f}\u{7f}\"#\n!=#\nô\r9re)urn1798887738940\r\n" false ∷
+    both 1 "#â\u{80}¨\0\n try \n a super f let " "#à\u{a0}\u{80}\u{7f}\n try \n n super Z let " true ∷
+    both 2 "elif0.0\u{5}" "aalse.0\u{5}" true ∷
+    both 1 ":<else+\"\\nÃ\u{9f}\"`  ;â\u{82}¬" ":<else+\"\\n} \"`  ;â\u{82}¬" true ∷
+    both 2 "0.clas\r\nð\u{9f}\u{98}\u{80} " "0.clbs\r\nð\u{9f}\u{98}\u{80} " true ∷
+    both 1 "#\n\r\n0." "#\n\r\n0." true ∷
+    both 2 "classsup\\1eer\"\"\"Ã©Ã\u{9f}\\tb c\"\"Ã©\"\tsuper" "Za00rr0e\\1eer\"\"\"Z(!'\\tï¿¿\"\"Ã©\"\tsuper" true ∷
+    both 1 "/>=\"!Ã\\©\\n\r\"a\\\n\"\tFALSE" "/><b!Ã\\©\\n\r\"a\\\n\"\tFALSE" false ∷
+    both 2 "\"\\r\r\n\"" "\"\\r\\\n\"" false ∷
+    both 1 "class thislet < catchif { b ( " "class thislet < catchi# { b ( " false ∷
+    both 2 "|  or148481\tnotthis1#\n\"\u{7f}00ifâ\u{80}¨\"$\t" "|  tZas91Zn\tnotthis1#\n\"Z\0= \0_(Z\"$\t" true ∷
+    both 1 "while in ) = " "\"hilx i\\ ) = " false ∷
+    both 2 "\n break " "\n break " true ∷
+    both 1 "[ catchnil , b ] . a \n " "[ cZtchnil , b ] . a \n " true ∷
+    both 2 "an\"\\\"a\\r\"#\\n\n\t9007199254741163*=\r\n=" "an\"\\\"a\\r\"#\\n\n\t9\t07199254741163 =\r\n=" false ∷
+    both 1 "while true == continueor \n " "while true == AAintennst \n " true ∷
+    both 2 "\n continue \n " "\n contin e \n " false ∷
+    both 1 "!not\r<while\"\n\"!+\r\"â\u{80}¨Ã©\"" "!not\r<while\"\n\"!+\r\"\r\tà\u{a0}\u{80}\"" true ∷
+    both 2 "falscont@nuelet\"\\n\0ifb c\r#\\\"\\n\n\r#\n this" "falscZnt@nuelet\"\\n\0ifb c\r#\\\"\\n\nn#{ this" false ∷
+    both 1 "*else\ncatcch\tefifcatch[  \"\n!\"?  " "*else\ncatcch\tefifnatch<  \"\n,\"?  " false ∷
+    both 2 "< \"!Ã©\\t\\r\" == > == - " "< \"@(a\\t\\r\" == > == - " true ∷
+    both 1 "* > / == . <= > \n \n \n >= b return " "* > / == . <= > \n a \n >= b reaurn " false ∷
+    both 2 "\"â\u{82}¬\"\tAND +9007199254740522elia" "\"_=\u{7f}\"\tf0A +9007199254740522oAn9" true ∷
+    both 1 "{Q leetb09007199254.740993" "{e supAr09007199254.740993" true ∷
+    both 2 "} " "} " true ∷
+    both 1 "\n 1 1.5 " "\n 1 <.\\0" false ∷
+    both 2 "continue #a\"a.\n \n " "continue #a\"a.\n \n " true ∷
+    both 1 "\"\\\"ð\u{9f}\u{98}\u{80}ð\u{9f}\u{98}\u{80}Ã© " "\"\\\"ð\u{9f}\u{98}\u{80}ð\u{9f}\u{98}\u{80}Ã© " true ∷
+    both 2 "\n 1 #\"a@\n " "\n 1 #!}@\n " true ∷
+    both 1 "nott!\"\0\\\"\u{7f}â\u{82}¬\"\t" "rfna!\"#\\\"\r@\u{7f}'\"\t" true ∷
+    both 2 "FOR  |ina\rbreak\tlse#if\\t\n\telse\"\râ\u{80}¨ð\u{9f}\u{98}\u{80}" "FO\n  |iba\rbreak\tlse#if\\t\n\telse\"\râ\u{80}¨ð\u{9f}\u{98}\u{80}" false ∷
+    both 1 "\n return c . a . b . tr #\n = b \n " "\n return c . a . b . tr #\n = b _ " false ∷
+    both 2 "\"ð\u{9f}\u{98}\u{80}0\00Ã\u{9f}\"~\\#â\u{82}¬#\nÃ©\r\n\"â\u{82}¬\"  fbr" "\"ð\u{9f}\u{98}\u{80}0\00Ã\u{9f}\"~\\#â\u{82}¬#\nÃ©\r\n\"â\u{82}¬\"  fbr" true ∷
+    both 1 "\n this0 " "\n this0 " true ∷
+    both 2 "trueA \n if this { } else { } ^ " "trueA \n qf this { } else { } ^ " false ∷
+    both 1 "{ " "{ " true ∷
+    both 2 "not #\r\t_\\.\n \n b \n " "not #\r\t_\\.\n \n _ \n " true ∷
+    both 1 "let \n b \n \n #Z\t\"a.\n : not " "let \n i \n \n #(#\"a}\n : not " true ∷
+    both 2 "return \n #ï¿¿}\n #\"a.@\u{7f}\n " "return \n #ï¿¿}\n #\"a.@0\n " true ∷
+    both 1 "000" "!\\0" false ∷
+    both 2 "\"\t\nif#\"==#0Ã7\n \"\\n\"900" "\"\t\nif#\"==#0Ã7x \"\\n\"900" false ∷
+    both 1 "if continue \u{c}" "if continue \u{c}" true ∷
+    both 2 "00900719925474.099^or!b" "00900719925474.099^or!\n" false ∷
+    both 1 "this " "this " true ∷
+    both 2 "fn ] and % or " "fn ] a\\d % \"r " false ∷
+    both 1 "\"\"Ã©\\t\"1000000\r" "\"\"Ã©\\t\"=000000\r" false ∷
+    both 2 "<andb92y\"\\\"\u{7f}\\\"}\r900719r54740t.92continu" "<andb92y\"\\\"\u{7f}\\\"}\rb00719r54740t.)2continu" false ∷
+    both 1 "% or #.\n break b and * ] \n " "% qr #.\n break b and * 9 \n " false ∷
+    both 2 "\n this #\n " "\n this #\n " true ∷
+    both 1 "\u{c}0.0000000000000005312022>=\"\"" "\u{c}0.00\"00000000000053120Z2>=\"\"" false ∷
+    both 2 "\"â\u{82}¬\\ \"\"if\"\r" "\"â\u{82}¬\\ \"\"if\"\r" true ∷
+    both 1 "#\\\"\n\"1.r\\\\\t\\\r\"5eturn " "#\\\"\n\"1.r\\\\\t\\\r\"5eturn " true ∷
+    both 2 "0.00000900\"\"7199254741953&if#!\\n\\r\n  " "0.00000900\"\"7199254741953&if#a#\"\ta\n  " true ∷
+    both 1 "! " "! " true ∷
+    both 2 "- catch ^ true < ! \n " "- catch ^ true < ! \n " true ∷
+    both 1 "in #\n , : \n = for - f9n true catch " "in #\n ,}: \n = for - f9n true catch " false ∷
+    both 2 "\n \n { } \n " "\n \n { ! \n " false ∷
+    both 1 "this1#\u{7f}\n\n\rreturn\t#\\tÃ©\nifs" "this1# \n\n\rreturn\t#!â\u{82}¬\nifs" true ∷
+    both 2 "let let b #\t\n return class9 or \n b \n " "let let r #\n\n return ZasfAo or \n Z \n " false ∷
+    both 1 "!= break \n a + a = ni0l or ^ l " "!= break \n a + a = ni_l or ^ l " false ∷
+    both 2 ";if#\tÃ\u{9f}\nâ\u{82}¬#\\\\\n\u{c}" ";if#\tÃ\u{9f}\nâ\u{82}¬#\\\\\\\u{c}" false ∷
+    both 1 "0.0000185555947461970" "0.00001.5555947461970" false ∷
+    both 2 "= b \n " "= e \n  " false ∷
+    both 1 "\n b " ", b)" false ∷
+    both 2 "if ) { #\"a\0\n nil \n } \n " "if ) { #!Â\u{80}\n nil \n } \n " true ∷
+    both 1 "`}  000100.00000>0." "`}  000100.00000>0." true ∷
+    both 2 "( \n WHILE ) #Z \"a\n " "( \n )9ILE )\n#Z \"a\n " false ∷
+    both 1 "con\"tinte bor;ELIF\rcatc0" "oot\"tinte bor;ELIF\rcatc0" true ∷
+    both 2 "\n class " "\n class " true ∷
+    both 1 "2594.7023 2.3127157360272>=##\n false  " "2594.7023 2.3127157360272>=##\n false  " true ∷
+    both 2 "whi\"le\r" "whi{l}\r" false ∷
+    both 1 "for ; fn (  , b ) { " "for ; fn (  , b ) { " true ∷
+    both 2 "- tryelif / \n super super \n > [ : not ; " "- tryel f / \n super{super \n > [ : no) ; " false ∷
+    both 1 "090à71925474.0991}\"\r\\\"#\r\"" "090à719,5474.0991}\"\r\\\"#=\"" false ∷
+    both 2 "#\\\"a.Z\n let c 0.25 " "#\\\"a.Z\n let r 0.25 " true ∷
+    both 1 "and\r\nn0ot " "a0d\r\nn0ot " false ∷
+    both 2 "â\u{82}¬\"\"\r\"\"" "â\u{82}¬\"\"\r\"\"" true ∷
+    both 1 "fn try8 ; ( ) ( or c this . b # (\n " "fn try8 ; ( ) ( or c this . _ #ZZ\n " true ∷
+    both 2 "contin¡e\"_\r\"\n`" "cont9n¡e\"_\r\"\n\"" false ∷
+    both 1 "andtrysuper\ttrybrea\u{c}whilecatcs CATCH" "andtrysuper\ttrybrea\u{c}xhilecatcs CATCH" true ∷
+    both 2 "fn try8 ( breaksuper ) { } a # \n " "fn trse ( breaksuper ) { } \" #\r\n " false ∷
+    both 1 "% " "% " true ∷
+    both 2 "let c = - trya \n " "let t = - _his \n " true ∷
+    both 1 "\\]eseb ?tAy\r\\ \"#[i1n\"\\t\n\"" "n]eseb ?oAo\r\\ \".ZÂ\u{80}\0\"\\f\n\"" false ∷
+    both 2 "` if\"\\n\t\tb cÃ©\"  fn" "`0if\"\\n\t\tb cÃ©\" \tfn" false ∷
+    both 1 "^\"\rð\u{9f}\u{98}\u{80}!q-" "^\"\rð\u{9f}\u{98}\u{80}!q- " false ∷
+    both 2 "8break\t\"â\u{82}¬\n\"\n" "8break\t\"aß¿\n\"\n" true ∷
+    both 1 "try tryn catch a a1 \n 2. " "try A_nf catch n a1 \n 21 " false ∷
+    both 2 "\n %@\"if\\\\1.5#â\u{82}¬\"  falseand\r\n\n \"\u{7f}\0Ã\u{9f}0\"" "\n %@\"\n\0\\\\}â\u{80}¨!('\"  coftinue\r\n\n \"\r#\r=a\"" false ∷
+    both 1 "\n a = c while b = n9il \n " "\n a = a while s = n9sa \n " true ∷
+    both 2 "\"Ã©\"!=trueSUPER\r. -true<\r\"b cô\u{8f}¿¿\\\\\"\r" "\"'_\"!=trueSUPER\r. -true<\r\"Z'}!@'=\\\\\"\r" true ∷
+    both 1 ";[\t+  \"#\r0\"andnilfor" ";[\t+  \"#,0\"anxnilfor" true ∷
+    both 2 "true  ==" "true  ==" true ∷
+    both 1 "false Xô\u{8f}¿¿1.5\\n\\q\"in\t{>#a\"\n" "f: se Xô\u{8f}¿¿1.5\\n\\q\"in\t{>#=\"\n" false ∷
+    both 2 "9" "9" true ∷
+    both 1 "\"\\t\\\r\n(and\"\\\"nilwhi\u{8d}e\r\n" "\"\\t\\\r\n(and\"\\!,ilwhi\u{8d}}\r\n" false ∷
+    both 2 "fn c ( ) this \n " "fn c ( ) th9s \n " false ∷
+    both 1 "] [ \n ] . for ) 1 in , <= #\t\n <= " "] [ \n ] . for ) 1 in , <= #\r\n <=  " false ∷
+    both 2 "while ( ) #\n { nil \n \n " "while ( ) #\n { nil \n \n " true ∷
+    both 1 "le29926262606.0\r" "le29926262.06.0\r" false ∷
+    both 2 "BREAK#\n\"Ã©#b cif\\\"  \"\\t\n\\\"b c\relifA!=:" "BREAa#a\"Ã©#b cif\\\"  \"\\t\n\\\"b c\relifA!=:" false ∷
+    both 1 "\n this - " "\n tais}x " false ∷
+    both 2 "continue \n \n while c b #!\n \n " "continue \n \n while t n #\n\n \n " false ∷
+    both 1 "=/ifsinnot,998.284" "=/oaZsonfa,998.284" true ∷
+    both 2 "break " "aaeak " false ∷
+    both 1 "try \n catch CLASS \"\" \n " "try \n catch CLASS \"\" \n " true ∷
+    both 2 "b + try in for this < " ". + try in for this < " false ∷
+    both 1 ". { } \n " ". {9}@\n " false ∷
+    both 2 "\\#\\\"a\n" "\\#\\(9}" false ∷
+    both 1 "eli\\f8\"" "_f_\\f8\"" true ∷
+    both 2 "return #\u{7f}_\n \n #ZÂ\u{80}\n < \n \n #\n " "retur<}#\u{7f}_\n \n #ZÂ\u{80}\n < \n \n #\n " false ∷
+    both 1 "a \n \n . \n \n ) \n \n " "a \n \n . 0 \n ) \n \n " false ∷
+    both 2 ".  \"a\"9007199254740991" ".  \"a\"9007199254740(91" false ∷
+    both 1 "if true #\\#\t'\0\n { " "if true #à\u{a0}\u{80}aa\n { " true ∷
+    both 2 "^ [ #Ã\u{9f}\\a\r\n \n : " "^ [ ,Ã\u{9f}\\a\r\n \n : " false ∷
+    both 1 "let b \n { fn ( ifZ " "let b \n { fn ( ifZ," false ∷
+    both 2 "class = " "cl9ss = " false ∷
+    both 1 "]9007199254740.993\n  \"a\u{7f}\"" "]900719\\254\n40.993\n  \"a\u{7f}\"" false ∷
+    both 2 "false return c \n " "fa\tse rZturn c \n " false ∷
+    both 1 "\"\"?<=\r\nforbreak#\u{7f}#\t9007199254740993." "\"\"?<=\r\nforb,eak#\u{7f}#\t9007199254740993." false ∷
+    both 2 "BREAKnillass0.00000000000000001o\r\"\" " "BREAKnillass0.00000000000000001a\r\"\" " true ∷
+    both 1 "> elif b #(Z='\n break #\u{7f}\n " "> elif n #(Z='\n break #\u{7f}\n " true ∷
+    both 2 "{ } \n break #à\u{a0}\u{80}\n " "{ } \n break #\"a#\n " true ∷
+    both 1 "in \n \n in \n \n [ , ] true this . = " "in \n \n in \n \n [ , ] true this . = " true ∷
+    both 2 "{returncatch\"!Ã©\\t\"\r" "<returncat}h\"!Ã©\\t\"\r" false ∷
+    both 1 "\"\"\\true\"\"`<~\"â\u{80}¨\\nô\u{8f}¿¿\"\rTHISletNOT\r" "\"\"\\true\"\"`<~\"â\u{80}¨\\nô\u{8f}¿¿\"\rTHISl,tNOT\r" false ∷
+    both 2 "if \n in9 { c } elif b " "if \n nZt { \n } elif Z " false ∷
+    both 1 "#\\n\reli\u{16}n  0tr%e" "#\\\0\r!\\!\t(}ß¿#\"a." true ∷
+    both 2 "b ( \n orz ) \n " "r ( \n orz ) \n " true ∷
+    both 1 "\"1.50\u{7f}else=\torÃ©0.this.continue%" "\"1.5{\u{7f}else=\torÃ©0.t0is.continue%" false ∷
+    both 2 "#ß¿!\n class a < b { # .\n } " "#ß¿!\n clabs a < b \" # .\n } " false ∷
+    both 1 "not c ^ c + TRY [ b : ands ] = FALSE \n " "not e ^ _ + TRY [ b : eZif ] = euper \n " true ∷
+    both 2 "+ ( #a\n " "+ ( #a. " false ∷
+    both 1 ">1000\\\u{8}\\\"\"\r\n" ">1000\\\u{8}\\\"\"\r\n" true ∷
+    both 2 "fo #=\"a\n " "A0 #ß¿Z\n " true ∷
+    both 1 "0001818272412819161. 78810\"88283867\t'" "0001818272412819161. 78810\"88283867\t'" true ∷
+    both 2 "for ; " ",or ; " false ∷
+    both 1 "@\r\n" "@\r\n" true ∷
+    both 2 "else9while==\ts" "else9while==\te" true ∷
+    both 1 "b ( ) . ELIF [ false ] = b #\r \n " "b ( ) . ELIF [ false\\] = b #\r!\n " false ∷
+    both 2 "#\n " "#\n " true ∷
+    both 1 "super ) " "super ) " true ∷
+    both 2 "continue  " "aontinue  " false ∷
+    both 1 "\r\n#1.5\n'" "\r\n# #a\n'" true ∷
+    both 2 "THISnot\t\"\r\"class1 \"\\t#\u{7f}  catch" "THISnot\t\"\r\"c9ass1 x\\9#\u{7f}  catch" false ∷
+    both 1 "?0\"\"\"\\\"\">}rueandZ" "?0\"\"\"\\\"\">}_artaeo" true ∷
+    both 2 "else = " "\\l\\e _ " false ∷
+    both 1 "\"\t\"" "\"\\\"" false ∷
+    both 2 "}  #`t\t\n\t18  \"\\\"if\"  ]T\u{12}Y\r\\\t" "}  #â\u{80}¨\n\t18  \"\\\"=}\"  ]T\u{12}\n\r\\\t" false ∷
+    both 1 "not #\u{7f}a \0!\n \n \"aâ\u{80}¨\" \n false [ n1il ] \n " "not #\u{7f}a \0!\n \n \"aâ\u{80}¨\" \n false [.n1il ] \n " false ∷
+    both 2 "162CONTINUE\rtry90071992547409.07" "162CONTInUE\rtry90071992547409.07" true ∷
+    both 1 "; % } false nil \n { 1 continue " "; % } false nil \n { 1 continue " true ∷
+    both 2 "let c = ( 1 #\n ) \n \n suber \n " "let e = ( 1 #\n ) \n \n ios90 \n " true ∷
+    both 1 "this900n199254740\"88" "this900n199254740\"88" true ∷
+    both 2 "â\u{82}\\¬\r\"15\01.5\\\"\"\"\\rÃ\u{9f}\n\t\"\r{" "â\u{82}\\¬b\"Z5\01.5\\\"\"\"\\bÃ\u{9f}\n\t\"\r{" false ∷
+    both 1 "conttiue\t" "eontinue\t" true ∷
+    both 2 "super . and \n " "super . and \n " true ∷
+    both 1 "for ; nil ; \n \n a ] \n #Â\u{80}\n a #\0'\n 1.5 " "for ; nil ; \n \n _ ] \n #\r'\n Z #!!\n 1.5 " true ∷
+    both 2 "\n \n \n let \n ( " "\n \n } l.t \n ( " false ∷
+    both 1 "fn ( ) bot \n let b = b . orelse #_\n 1.5 " "fn ( ) nit \n let o = n . orelse #_\n 1.5 " true ∷
+    both 2 "\n let a \n " "( let a0\n " false ∷
+    both 1 "\"\r1.5\\t\"" "\".@\t.\\(\"" false ∷
+    both 2 "return \n \n if #\\'.\n \n \n \n " "return \n \n if #\\'.\n \n \n \n#" false ∷
+    both 1 "try \n . for " "}ry \n . for " false ∷
+    both 2 "?\"if= c\"" "?\"ð\u{9f}\u{98}\u{80}\t\"" true ∷
+    both 1 "#\u{7f}\r\"\"whilesforthis>9.007199254740992\u{c}\r\\\r" "#\u{7f}\r\"\"whilesfort is>9.0n7199254740992\u{c}\r\\\r" true ∷
+    both 2 "#\n=#\n\"\u{7f}b cô\u{8f}¿¿\rô\u{8f}¿¿\"false+   N\r\n" "#\n=#\n\"\u{7f}b cô\u{8f}¿¿)ô\u{8f}¿¿\"false+   N\r\n" true ∷
+    both 1 "\"â\u{80}¨\r#\\t\u{7f}\n\u{c}\u{7f}\"\\\t" "\"!aâ\u{82}¬\\t\0\n@=\"\\n" false ∷
+    both 2 "elif,and0.0\\0000009007199254741298" "elif,ihis.0\\0000009007199254741298a" false ∷
+    both 1 "[ not0 , eliffn ( ) = nil ] #\n break \n " "[ not0 , eliff\" ( \\ = nil ] #\n \"reak \n " false ∷
+    both 2 "atch" "a9c)" false ∷
+    both 1 "for a , b in ] notA let _ry \n " "for f , t in ] frae let noA \n " true ∷
+    both 2 "9007199254 40^1]" "9007199254 40^1]" true ∷
+    both 1 "et\u{c}continue \"super  @fn1#\n" "fa\u{c}continue \"super  @fn1#\n" true ∷
+    both 2 "let class #\"\0!\\a\n #=\"à\u{a0}\u{80}\n " "let class #ô\u{8f}¿¿a\n #a\"\\\"a\n " true ∷
+    both 1 "@  â\u{82}¬\"a\tb cb c\"IF\treturn" "@  â\u{82}¬\"a\tb cb c\"ot\treturn" true ∷
+    both 2 "returnnfalse.\"\\ thiscatch" "An9Z8rs00tZs.\"\\ aAaoa8see" true ∷
+    both 1 "{ } #\\\u{7f}\u{7f}=}\n break #Â\u{80}a\n " "{ } #\\\u{7f}\u{7f}=}\n break #Â\u{80}a\n " true ∷
+    both 2 "'  false$ " "'  (alse$ " false ∷
+    both 1 "] ! " "] ! " true ∷
+    both 2 "!\"1.5â\u{80}¨\nnotcatch" "!\"1.(â\u{80}¨\nno.cat(h" false ∷
+    both 1 "o > b \n " "oa> b!\n " false ∷
+    both 2 "1000\t0." "1000\t0." true ∷
+    both 1 "0.\r\nssperbFN  not " "0.\r\nnontinue  not " true ∷
+    both 2 "for in / = a ; a ; c 1 \n " "for in / = Z ; r ; c 1 \n " true ∷
+    both 1 "\n " "\n " true ∷
+    both 2 "\n continue " ", cont9nue " false ∷
     []
 
 agree : premises pairs ≡ verdicts pairs

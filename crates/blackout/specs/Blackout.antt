@@ -9,6 +9,7 @@ use Rattle.token.specs.Kind.{Identifier}
 use Rattle.token.specs.Keyword.{keywordOf}
 use Rattle.text.specs.Text.{isText}
 use Rattle.spans.specs.Span.{isAlpha, isInner}
+use Rattle.rules.specs.Rules.{isNamed}
 use Rattle.items.specs.declared.Item.{Item}
 use Rattle.items.specs.declared.Item.the-variants.{Space, Comment, Name, Text, Number, Mark, Wrong}
 use Rattle.items.specs.Items.{itemOf, sizeOf, less}
@@ -49,42 +50,44 @@ next other b = other
 abbrev pub isFirm : ℕ → Bool
 isFirm b = eqb b 34 || (eqb b 92 || eqb b 10)
 
--- whether the second may have c where the first has b, which is not an item's first byte: in a comment any byte but a newline; in a name a byte of names; in a string an escape's byte stays, and so do a quote, a backslash and a newline, and any other byte becomes none of these; anything else stays
-abbrev pub may : Place → ℕ → ℕ → Bool
-may comment b c = isInner c
-may name b c = isAlpha c
-may (string true) b c = eqb b c
-may (string false) b c = cond (isFirm b) (eqb b c) (not (isFirm c))
-may other b c = eqb b c
-
--- whether the second may have c, and r behind it, where the first has b, the first byte of an item of n bytes: a comment keeps its #, a string its opening quote; a name begins with a byte of names, and its n bytes are no keyword; anything else stays
+-- whether the second may have c, and r behind it, where the first has b, the first byte of an item of n bytes: a comment keeps its #, a string its opening quote; a name begins with a letter or _ by either rule, and its n bytes are no keyword; anything else stays
 abbrev pub mayBegin : Place → ℕ → ℕ → ℕ → List ℕ → Bool
 mayBegin comment n b c r = eqb b c
 mayBegin name n b c r = isAlpha c && eqb (keywordOf (take n (c ∷ r))) Identifier
 mayBegin (string e) n b c r = eqb b c
 mayBegin other n b c r = eqb b c
 
--- both scripts from here on, with k bytes of the first's last item still to come, which stand at p; they end together
-abbrev pub alikeFrom : Place → List ℕ → List ℕ → ℕ → Bool
-alikeFrom p [] [] k = true
-alikeFrom p [] (c ∷ r) k = false
-alikeFrom p (b ∷ s) [] k = false
-alikeFrom p (b ∷ s) (c ∷ r) zero = let x = itemOf b s in mayBegin (placeOf x) (sizeOf x) b c r && alikeFrom (placeOf x) s r (less (sizeOf x))
-alikeFrom p (b ∷ s) (c ∷ r) (suc k) = may p b c && alikeFrom (next p b) s r k
+-- the rest by the rule, which is the same for both scripts
+module _ (rule : ℕ) where
+  -- whether the second may have c where the first has b, which is not an item's first byte: in a comment any byte but a newline; in a name a byte that goes on with a name of the rule; in a string an escape's byte stays, and so do a quote, a backslash and a newline, and any other byte becomes none of these; anything else stays
+  abbrev pub may : Place → ℕ → ℕ → Bool
+  may comment b c = isInner c
+  may name b c = isNamed rule c
+  may (string true) b c = eqb b c
+  may (string false) b c = cond (isFirm b) (eqb b c) (not (isFirm c))
+  may other b c = eqb b c
 
--- r differs from s only where and how the demand says
-unfoldable pub alike : List ℕ → List ℕ → Bool
-alike s r = alikeFrom other s r 0
+  -- both scripts from here on, with k bytes of the first's last item still to come, which stand at p; they end together
+  abbrev pub alikeFrom : Place → List ℕ → List ℕ → ℕ → Bool
+  alikeFrom p [] [] k = true
+  alikeFrom p [] (c ∷ r) k = false
+  alikeFrom p (b ∷ s) [] k = false
+  alikeFrom p (b ∷ s) (c ∷ r) zero = let x = itemOf rule b s in mayBegin (placeOf x) (sizeOf x) b c r && alikeFrom (placeOf x) s r (less (sizeOf x))
+  alikeFrom p (b ∷ s) (c ∷ r) (suc k) = may p b c && alikeFrom (next p b) s r k
 
--- ---- "Take two scripts of equal length within the limit, both passing the text test."
--- the premise, computed
-unfoldable pub blackout : List ℕ → List ℕ → Bool
-blackout s r = leb (length s) 65535 && (eqb (length s) (length r) && (isText s && (isText r && alike s r)))
+  -- r differs from s only where and how the demand says
+  unfoldable pub alike : List ℕ → List ℕ → Bool
+  alike s r = alikeFrom other s r 0
+
+  -- ---- "Take two scripts of equal length within the limit, both passing the text test."
+  -- the premise, computed
+  unfoldable pub blackout : List ℕ → List ℕ → Bool
+  blackout s r = leb (length s) 65535 && (eqb (length s) (length r) && (isText s && (isText r && alike s r)))
 
 -- the same, clause by clause
-pub record Blackout (s r : List ℕ) : Type 0 where
+pub record Blackout (rule : ℕ) (s r : List ℕ) : Type 0 where
   pub within : length s ≤ 65535
   pub equal-length : length s ≡ length r
   pub first-text : T (isText s)
   pub second-text : T (isText r)
-  pub differs-only : T (alike s r)
+  pub differs-only : T (alike rule s r)

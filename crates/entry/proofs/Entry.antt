@@ -11,36 +11,38 @@ use Rattle.lexer.specs.Lex.{lexedOf, Lexing}
 use Rattle.entry.specs.Ways.{outcomeOn}
 use Rattle.entry.specs.Entry.{Entered, unread, nodesAfter, entered, Enters}
 
--- the code asks whether an outcome is none of 0, 3 and 4
+-- the code asks whether an outcome is none of 0, 3, 4 and 13
 abbrev other : ℕ → Bool
-other o = (not (eqb o 0) && not (eqb o 3)) && not (eqb o 4)
+other o = ((not (eqb o 0) && not (eqb o 3)) && not (eqb o 4)) && not (eqb o 13)
 
 is-other : (o : ℕ) → other o ≡ true → eqb o 0 || unread o ≡ false
-is-other o = at (eqb o 0) (eqb o 3) (eqb o 4)
+is-other o = at (eqb o 0) (eqb o 3) (eqb o 4) (eqb o 13)
   where
-    at : (a b c : Bool) → (not a && not b) && not c ≡ true → a || (b || c) ≡ false
-    at true b c h = sym h
-    at false true c h = sym h
-    at false false c h = not-true c h
+    at : (a b c d : Bool) → ((not a && not b) && not c) && not d ≡ true → a || (b || (c || d)) ≡ false
+    at true b c d h = sym h
+    at false true c d h = sym h
+    at false false true d h = sym h
+    at false false false d h = not-true d h
 
 is-kept : (o : ℕ) → other o ≡ false → eqb o 0 || unread o ≡ true
-is-kept o = at (eqb o 0) (eqb o 3) (eqb o 4)
+is-kept o = at (eqb o 0) (eqb o 3) (eqb o 4) (eqb o 13)
   where
-    at : (a b c : Bool) → (not a && not b) && not c ≡ false → a || (b || c) ≡ true
-    at true b c h = refl
-    at false true c h = refl
-    at false false c h = not-false c h
+    at : (a b c d : Bool) → ((not a && not b) && not c) && not d ≡ false → a || (b || (c || d)) ≡ true
+    at true b c d h = refl
+    at false true c d h = refl
+    at false false true d h = refl
+    at false false false d h = not-false d h
 
-module _ (way : ℕ) (s t e n T E : List ℕ) (d : Scanned) (l : Lexing (lexedOf s (room tokenWidth t) (room errorWidth e)) d t T e E) (o : ℕ) (is : o ≡ outcomeOn way (d .outcome) (d .errors)) where
+module _ (rule way : ℕ) (s t e n T E : List ℕ) (d : Scanned) (l : Lexing (lexedOf rule s (room tokenWidth t) (room errorWidth e)) d t T e E) (o : ℕ) (is : o ≡ outcomeOn way (d .outcome) (d .errors)) where
   -- lexing's answer, with the outcome that its own becomes on the way
   abbrev answer : Scanned
   answer = record { outcome = o; tokens = d .tokens; errors = d .errors }
 
-  outcome-is : o ≡ entered way s t e n .outcome
+  outcome-is : o ≡ entered rule way s t e n .outcome
   outcome-is = is ∙ λ i. outcomeOn way (l .outcome-is i) (l .errors-are i)
 
   -- with the node table that the outcome asks for
-  stands : (N : List ℕ) → N ≡ nodesAfter o n → Enters (entered way s t e n) answer T E N
+  stands : (N : List ℕ) → N ≡ nodesAfter o n → Enters (entered rule way s t e n) answer T E N
   stands N h =
       record {
         outcome-is = outcome-is;
@@ -52,11 +54,11 @@ module _ (way : ℕ) (s t e n T E : List ℕ) (d : Scanned) (l : Lexing (lexedOf
       }
 
   -- the node table is as it was
-  pub leaves : other o ≡ false → Enters (entered way s t e n) answer T E n
+  pub leaves : other o ≡ false → Enters (entered rule way s t e n) answer T E n
   leaves u = stands n (ap (λ (b : Bool). cond b n (zeroed nodeWidth n 0)) (sym (is-kept o u)))
 
   -- it is all zeros
-  pub clears : (N : List ℕ) → other o ≡ true → N ≡ zeroed nodeWidth n 0 → Enters (entered way s t e n) answer T E N
+  pub clears : (N : List ℕ) → other o ≡ true → N ≡ zeroed nodeWidth n 0 → Enters (entered rule way s t e n) answer T E N
   clears N u h = stands N (h ∙ ap (λ (b : Bool). cond b n (zeroed nodeWidth n 0)) (sym (is-other o u)))
 
 -- ---- what the code has stands

@@ -5,7 +5,7 @@ use mathlib.Core.Bool.{Bool, cond, _||_}
 use mathlib.Core.List.{List, _++_}
 use lib.Dec.{eqb}
 use lib.ListN.{length, drop}
-use Rattle.records.specs.Outcomes.{ended, notText, tooLong}
+use Rattle.records.specs.Outcomes.{ended, notText, tooLong, wrongRule}
 use Rattle.records.specs.Table.{room, zeroed, tokenWidth, errorWidth, nodeWidth}
 use Rattle.lexer.specs.declared.Scanned.{Scanned}
 use Rattle.lexer.specs.Lex.{Result, lexedOf}
@@ -24,11 +24,11 @@ pub record Entered : Type 0 where
 abbrev pub over : List ℕ → List ℕ → List ℕ
 over ws t = ws ++ drop (length ws) t
 
--- outcomes 3 and 4: the source is no text, or too long, and nothing of it is read
+-- outcomes 3, 4 and 13: the source is no text, or too long, or the number names no rule, and nothing is read
 abbrev pub unread : ℕ → Bool
-unread o = eqb o notText || eqb o tooLong
+unread o = eqb o notText || (eqb o tooLong || eqb o wrongRule)
 
--- the node table is as it was where parsing comes, and after 3 and 4; after any other outcome every word of it is 0
+-- the node table is as it was where parsing comes, and after 3, 4 and 13; after any other outcome every word of it is 0
 abbrev pub nodesAfter : ℕ → List ℕ → List ℕ
 nodesAfter o n = cond (eqb o ended || unread o) n (zeroed nodeWidth n 0)
 
@@ -43,9 +43,9 @@ enteredAfter d t e n = record {
   nodes = nodesAfter (d .outcome) n;
 }
 
--- on either way, of any bytes, into tables t, e and n
-abbrev pub entered : ℕ → List ℕ → List ℕ → List ℕ → List ℕ → Entered
-entered way s t e n = enteredAfter (onWay way (lexedOf s (room tokenWidth t) (room errorWidth e))) t e n
+-- by any rule and on any way, of any bytes, into tables t, e and n
+abbrev pub entered : ℕ → ℕ → List ℕ → List ℕ → List ℕ → List ℕ → Entered
+entered rule way s t e n = enteredAfter (onWay way (lexedOf rule s (room tokenWidth t) (room errorWidth e))) t e n
 
 -- what the step answers, and the three tables it leaves: every word of them
 pub record Enters (d : Entered) (r : Scanned) (tokens′ errors′ nodes′ : List ℕ) : Type 0 where

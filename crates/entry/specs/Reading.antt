@@ -1,4 +1,4 @@
--- The whole reading, from bytes to the three tables: outcomes 0 to 8 in document 01's order, and 11 between lexing's and parsing's.
+-- The whole reading, from bytes to the three tables: 13 first, then outcomes 0 to 8 in document 01's order, and 11 between lexing's and parsing's.
 use Prim.Native.Nat.{ℕ}
 use mathlib.Core.Path.{_≡_}
 use mathlib.Core.Bool.{Bool, true, false}
@@ -33,17 +33,17 @@ abbrev pub pickReading : Bool → (Unit {0} → Reading) → (Unit {0} → Readi
 pickReading true a b = a tt
 pickReading false a b = b tt
 
--- what stands is parsed, where the test holds, or is the answer
-abbrev pub readBy : Bool → Entered → Reading
-readBy b d = pickReading b (λ _. joined (d .tokenCount) (d .tokens) (parsed (d .tokens) (d .errorCount) (d .errors) (d .nodes))) λ _. refused d
+-- what stands is parsed by the rule, where the test holds, or is the answer
+abbrev pub readBy : Bool → ℕ → Entered → Reading
+readBy b rule d = pickReading b (λ _. joined (d .tokenCount) (d .tokens) (parsed rule (d .tokens) (d .errorCount) (d .errors) (d .nodes))) λ _. refused d
 
 -- it is parsed where its outcome is 0
-abbrev pub readAfter : Entered → Reading
-readAfter d = readBy (eqb (d .outcome) ended) d
+abbrev pub readAfter : ℕ → Entered → Reading
+readAfter rule d = readBy (eqb (d .outcome) ended) rule d
 
--- the reading of any bytes, on either way, into tables t, e and n
-unfoldable pub reading : ℕ → List ℕ → List ℕ → List ℕ → List ℕ → Reading
-reading way s t e n = readAfter (entered way s t e n)
+-- the reading of any bytes, by any rule and on any way, into tables t, e and n
+unfoldable pub reading : ℕ → ℕ → List ℕ → List ℕ → List ℕ → List ℕ → Reading
+reading rule way s t e n = readAfter rule (entered rule way s t e n)
 
 -- what a reading answers, and the three tables it leaves: every word of them
 pub record Answers (d : Reading) (r : Answer) (tokens′ errors′ nodes′ : List ℕ) : Type 0 where

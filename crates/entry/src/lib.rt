@@ -39,22 +39,24 @@ fn outcome_on(way: u32, outcome: u32, errors: u32) -> u32
 }
 
 // The step from lexing to parsing: `read` begins with it, and the reading of a statement at a time. With outcome 0 what was lexed is to be parsed. Any other
-// ends the reading: after 3 and 4 the node table is as it was, else it is all zeros.
+// ends the reading: after 3, 4 and 13 the node table is as it was, else it is all zeros.
 pub fn enter(
+    rule: u32,
     way: u32,
     source: &[u8],
     tokens: &mut [u32],
     errors: &mut [u32],
     nodes: &mut [u32],
 ) -> Scanned
-    ensures { λ r. ⌜ Enters (entered way (now (source .entry)) (now (tokens .entry)) (now (errors .entry)) (now (nodes .entry)))
+    ensures { λ r. ⌜ Enters (entered rule way (now (source .entry)) (now (tokens .entry)) (now (errors .entry)) (now (nodes .entry)))
         r (now (tokens .exit)) (now (errors .exit)) (now (nodes .exit)) ⌝ }
 {
-    let d = lexer::scan(source, tokens, errors);
+    let d = lexer::scan(rule, source, tokens, errors);
     let outcome = outcome_on(way, d.outcome, d.errors);
     if (outcome != Outcome::ENDED)
         & (outcome != Outcome::NOT_TEXT)
         & (outcome != Outcome::TOO_LONG)
+        & (outcome != Outcome::WRONG_RULE)
     {
         records::zero_rest(nodes, 0);
     }

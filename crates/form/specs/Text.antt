@@ -7,6 +7,7 @@ use lib.Dec.{ltb}
 use lib.ListN.{length, getD, take, drop, replicate}
 use Rattle.records.specs.Table.{tokenWidth, errorWidth, nodeWidth}
 use Rattle.entry.specs.declared.Answer.{Answer}
+use Rattle.rules.specs.Rules.{one}
 use Rattle.entry.specs.Ways.{goOn}
 use Rattle.entry.specs.Reading.{Reading, reading}
 
@@ -65,9 +66,9 @@ textOf r =
 abbrev pub readOf : Answer → List ℕ → List ℕ → List ℕ → Reading
 readOf r T E N = record { outcome = r .outcome; tokenCount = r .tokens; errorCount = r .errors; nodeCount = r .nodes; first = r .first; tokens = T; errors = E; nodes = N }
 
--- the reading of a script, on the old way, into empty tables with room for 2,048 tokens, 256 errors and 1,600 nodes
+-- the reading of a script, by rule one and on the old way, into empty tables with room for 2,048 tokens, 256 errors and 1,600 nodes
 abbrev pub readWithin : List ℕ → Reading
-readWithin s = reading goOn s (replicate (tokenWidth * 2048) 0) (replicate (errorWidth * 256) 0) (replicate (nodeWidth * 1600) 0)
+readWithin s = reading one goOn s (replicate (tokenWidth * 2048) 0) (replicate (errorWidth * 256) 0) (replicate (nodeWidth * 1600) 0)
 
 -- what `outline` prints of a script: it has room for 4,096 bytes
 unfoldable pub outlineOf : List ℕ → List ℕ

@@ -8,6 +8,7 @@ ghost use Rattle.io.specs.Counts.{Counts};
 ghost use Rattle.form.specs.Text.{Holds, field, lineOf, linesOf, headOf, readOf, textOf, outlineOf};
 use entry::Answer;
 use entry::Way;
+use rules::Rule;
 
 // The longest script that is read.
 const MOST_BYTES: usize = 4096;
@@ -152,6 +153,13 @@ pub fn outline(source: &[u8], out: &mut [u8]) -> usize
         };
         return head(out, 0, r);
     }
-    let r = reader::read(Way::GO_ON, source, &mut tokens, &mut errors, &mut nodes);
+    let r = reader::read(
+        Rule::ONE,
+        Way::GO_ON,
+        source,
+        &mut tokens,
+        &mut errors,
+        &mut nodes,
+    );
     reading(out, r, &tokens, &errors, &nodes)
 }

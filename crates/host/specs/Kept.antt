@@ -8,15 +8,15 @@ use Rattle.host.specs.declared.Parser.{Parser}
 
 -- the state in which it reads
 abbrev pub stateOf : Parser → State
-stateOf p = record { current = p .current; errors = p .errors; nodes = p .nodes; loops = p .loops }
+stateOf p = record { rule = p .rule; current = p .current; errors = p .errors; nodes = p .nodes; loops = p .loops }
 
 -- with so many tokens, that state, first and last statement and mark
 abbrev pub changed : Parser → ℕ → State → ℕ → ℕ → ℕ → ℕ → Parser
-changed p tokens q first last ended outcome = record { way = p .way; current = q .current; loops = q .loops; tokens = tokens; errors = q .errors; nodes = q .nodes; first = first; last = last; ended = ended; outcome = outcome }
+changed p tokens q first last ended outcome = record { rule = p .rule; way = p .way; current = q .current; loops = q .loops; tokens = tokens; errors = q .errors; nodes = q .nodes; first = first; last = last; ended = ended; outcome = outcome }
 
 -- before the first statement, with what was lexed
 abbrev pub fresh : Parser → ℕ → ℕ → Parser
-fresh p tokens errors = changed p tokens (freshState errors) 0 0 0 outcomes.goesOn
+fresh p tokens errors = changed p tokens (freshState (p .rule) errors) 0 0 0 outcomes.goesOn
 
 -- with another mark: whether the final answer is given, and the outcome
 abbrev pub markedAs : ℕ → ℕ → Parser → Parser

@@ -9,10 +9,11 @@ use records::Outcome;
 use token::Token;
 
 // What the host keeps between two calls: the cursor, the open loops, how many tokens, errors and nodes stand in the tables, the first and the last
-// statement, and the last outcome; `ended` is 0 until that is the final answer. The way is the host's: it is set before `begin`, and no call changes it. A
-// parser of zeros is one that nothing was begun with: a read answers 18.
+// statement, and the last outcome; `ended` is 0 until that is the final answer. The rule and the way are the host's: they are set before `begin`, and no call
+// changes them. A parser of zeros is one that nothing was begun with: a read answers 18.
 #[repr(C)]
 pub struct Parser {
+    pub rule: u32,
     pub way: u32,
     pub current: u32,
     pub loops: u32,

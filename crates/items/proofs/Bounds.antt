@@ -9,8 +9,9 @@ use lib.ListN.{length, getD, drop, length-drop}
 use lib.Seq.{drop-cons}
 use Rattle.token.specs.Kind.{EOF}
 use Rattle.records.specs.Messages.{loneBang}
-use Rattle.spans.specs.Span.{isAlpha, isInner}
+use Rattle.spans.specs.Span.{isInner}
 use Rattle.spans.proofs.Run.{run-le}
+use Rattle.rules.specs.Rules.{isNamed}
 use Rattle.numbers.proofs.Join.{number-le}
 use Rattle.strings.specs.declared.Ended.{Ended}
 use Rattle.strings.specs.declared.Ended.the-variants.{Closed, Broken}
@@ -39,26 +40,26 @@ text-bounded : (k : ℕ) (x : Ended) → Sized k x → Bounded (suc k) (textItem
 text-bounded k (Closed n m l) h = omega arith
 text-bounded k (Broken n m) h = omega arith
 
-as-bounded : (z : Class) (b : ℕ) (s : List ℕ) → Bounded (suc (length s)) (itemAs z b s)
-as-bounded letter b s = let h = run-le isAlpha s in omega arith
-as-bounded digit b s = let h = number-le s in omega arith
-as-bounded (sign Newline) b s = omega arith
-as-bounded (sign Blank) b s = omega arith
-as-bounded (sign Hash) b s = let h = run-le isInner s in omega arith
-as-bounded (sign Quote) b s = text-bounded (length s) (readOf s begun) (sized s)
-as-bounded (sign (Single k)) b s = omega arith
-as-bounded (sign (Pair k l)) b s = pair-bounded k l s
-as-bounded (sign Illegal) b s = omega arith
+as-bounded : (rule : ℕ) (z : Class) (b : ℕ) (s : List ℕ) → Bounded (suc (length s)) (itemAs rule z b s)
+as-bounded rule letter b s = let h = run-le (isNamed rule) s in omega arith
+as-bounded rule digit b s = let h = number-le s in omega arith
+as-bounded rule (sign Newline) b s = omega arith
+as-bounded rule (sign Blank) b s = omega arith
+as-bounded rule (sign Hash) b s = let h = run-le isInner s in omega arith
+as-bounded rule (sign Quote) b s = text-bounded (length s) (readOf s begun) (sized s)
+as-bounded rule (sign (Single k)) b s = omega arith
+as-bounded rule (sign (Pair k l)) b s = pair-bounded k l s
+as-bounded rule (sign Illegal) b s = omega arith
 
-pub item-bounded : (b : ℕ) (s : List ℕ) → Bounded (suc (length s)) (itemOf b s)
-item-bounded b s = as-bounded (classOf b) b s
+pub item-bounded : (rule b : ℕ) (s : List ℕ) → Bounded (suc (length s)) (itemOf rule b s)
+item-bounded rule b s = as-bounded rule (classOf b) b s
 
 -- at a place of the source
-pub bounded-at : (s : List ℕ) (i : ℕ) (x : Item) → i < length s → x ≡ itemAt (drop i s)
+pub bounded-at : (rule : ℕ) (s : List ℕ) (i : ℕ) (x : Item) → i < length s → x ≡ itemAt rule (drop i s)
     → (1 ≤ sizeOf x) × (i + sizeOf x ≤ length s) × (linesOf x ≤ sizeOf x) × (decodedOf x ≤ sizeOf x)
-bounded-at s i x h e =
+bounded-at rule s i x h e =
     let d : drop i s ≡ getD s i 0 ∷ drop (suc i) s = drop-cons s i 0 h in
-    let y : Bounded (suc (length (drop (suc i) s))) (itemAt (drop i s)) =
-    subst⁻¹ (λ (l : List ℕ). Bounded (suc (length (drop (suc i) s))) (itemAt l)) d (item-bounded (getD s i 0) (drop (suc i) s)) in
+    let y : Bounded (suc (length (drop (suc i) s))) (itemAt rule (drop i s)) =
+    subst⁻¹ (λ (l : List ℕ). Bounded (suc (length (drop (suc i) s))) (itemAt rule l)) d (item-bounded rule (getD s i 0) (drop (suc i) s)) in
     let z : Bounded (suc (length (drop (suc i) s))) x = subst⁻¹ (Bounded (suc (length (drop (suc i) s)))) e y in
     omega (arith, length-drop (suc i) s)

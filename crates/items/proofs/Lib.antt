@@ -1,3 +1,4 @@
 pub mod Signs
 pub mod Found
 pub mod Bounds
+pub mod One

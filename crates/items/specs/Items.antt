@@ -1,4 +1,4 @@
--- Rules 1 to 6 of document 01, first phase: bytes to items. An item has all that its bytes give, and no place, no line and no byte.
+-- Rules 1 to 6 of document 01, first phase: bytes to items. An item has all that its bytes give, and no place, no line and no byte. What rule two changes is said in `Rules`.
 use Prim.Native.Nat.{ℕ, zero, suc}
 use mathlib.Core.Bool.{Bool, true, false}
 use mathlib.Core.List.{List, [], _∷_}
@@ -7,6 +7,8 @@ use lib.ListN.{take}
 use Rattle.token.specs.Kind as kinds
 use Rattle.token.specs.Keyword.{keywordOf}
 use Rattle.spans.specs.Span.{isAlpha, isDigit, isInner, run}
+use Rattle.rules.specs.Rules.{isNamed, stopsAt}
+use Rattle.numbers.specs.declared.Numeral.{Numeral}
 use Rattle.numbers.specs.Number.{numberOf}
 use Rattle.strings.specs.declared.Ended.{Ended}
 use Rattle.strings.specs.declared.Ended.the-variants.{Closed, Broken}
@@ -89,15 +91,6 @@ abbrev pub pickItem : Bool → Item → Item → Item
 pickItem true a b = a
 pickItem false a b = b
 
--- rule 3: a name, and its kind
-abbrev pub nameOf : ℕ → List ℕ → Item
-nameOf b s = Name (keywordOf (b ∷ take (run isAlpha s) s)) (suc (run isAlpha s))
-
--- rule 3, where a name begins the bytes
-abbrev pub nameAt : List ℕ → Item
-nameAt [] = Space
-nameAt (b ∷ s) = nameOf b s
-
 -- rule 5: a string that closes is a token; else it is a message
 abbrev pub textItem : Ended → Item
 textItem (Closed n m l) = Text (suc n) m l
@@ -112,26 +105,41 @@ abbrev pub pairAt : ℕ → ℕ → List ℕ → Item
 pairAt k l [] = lone k
 pairAt k l (x ∷ s) = pickItem (eqb x 61) (Mark l 2 0) (lone k)
 
--- the item whose first byte is b, of that class, with s behind it
-abbrev pub itemAs : Class → ℕ → List ℕ → Item
-itemAs letter b s = nameOf b s
-itemAs digit b s = Number (numberOf b s)
-itemAs (sign Newline) b s = Mark kinds.Newline 1 1
-itemAs (sign Blank) b s = Space
-itemAs (sign Hash) b s = Comment (suc (run isInner s))
-itemAs (sign Quote) b s = textItem (readOf s begun)
-itemAs (sign (Single k)) b s = Mark k 1 0
-itemAs (sign (Pair k l)) b s = pairAt k l s
-itemAs (sign Illegal) b s = Wrong illegalCharacter 1 0
+-- the item at a place, by the rule
+module _ (rule : ℕ) where
+  -- rule 3: a name, and its kind
+  abbrev pub nameOf : ℕ → List ℕ → Item
+  nameOf b s = Name (keywordOf (b ∷ take (run (isNamed rule) s) s)) (suc (run (isNamed rule) s))
 
--- the item whose first byte is b, with s behind it
-abbrev pub itemOf : ℕ → List ℕ → Item
-itemOf b s = itemAs (classOf b) b s
+  -- rule 3, where a name begins the bytes
+  abbrev pub nameAt : List ℕ → Item
+  nameAt [] = Space
+  nameAt (b ∷ s) = nameOf b s
 
--- the item at the front
-abbrev pub itemAt : List ℕ → Item
-itemAt [] = Space
-itemAt (b ∷ s) = itemOf b s
+  -- rule 4: a number, and whether lexing stops at it
+  abbrev pub numberItem : Numeral → Item
+  numberItem x = Number (record { size = x .size; whole = x .whole; places = x .places; cut = stopsAt rule (x .cut) })
+
+  -- the item whose first byte is b, of that class, with s behind it
+  abbrev pub itemAs : Class → ℕ → List ℕ → Item
+  itemAs letter b s = nameOf b s
+  itemAs digit b s = numberItem (numberOf b s)
+  itemAs (sign Newline) b s = Mark kinds.Newline 1 1
+  itemAs (sign Blank) b s = Space
+  itemAs (sign Hash) b s = Comment (suc (run isInner s))
+  itemAs (sign Quote) b s = textItem (readOf s begun)
+  itemAs (sign (Single k)) b s = Mark k 1 0
+  itemAs (sign (Pair k l)) b s = pairAt k l s
+  itemAs (sign Illegal) b s = Wrong illegalCharacter 1 0
+
+  -- the item whose first byte is b, with s behind it
+  abbrev pub itemOf : ℕ → List ℕ → Item
+  itemOf b s = itemAs (classOf b) b s
+
+  -- the item at the front
+  abbrev pub itemAt : List ℕ → Item
+  itemAt [] = Space
+  itemAt (b ∷ s) = itemOf b s
 
 -- how many bytes an item has
 abbrev pub sizeOf : Item → ℕ
@@ -168,8 +176,8 @@ abbrev pub less : ℕ → ℕ
 less zero = zero
 less (suc n) = n
 
--- all items; k bytes of the last one are still to be passed
-abbrev pub items : List ℕ → ℕ → List Item
-items [] k = []
-items (b ∷ s) zero = let x = itemOf b s in x ∷ items s (less (sizeOf x))
-items (b ∷ s) (suc k) = items s k
+-- all items, by the rule; k bytes of the last one are still to be passed
+abbrev pub items : ℕ → List ℕ → ℕ → List Item
+items rule [] k = []
+items rule (b ∷ s) zero = let x = itemOf rule b s in x ∷ items rule s (less (sizeOf x))
+items rule (b ∷ s) (suc k) = items rule s k

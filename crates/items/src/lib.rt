@@ -3,7 +3,8 @@ ghost use mathlib.Core.Path.{_≡_};
 ghost use Prim.Native.Nat.{_+_, _<_};
 ghost use lib.ListN.{length, drop};
 ghost use Rattle.strings.specs.Strings.{readOf, begun};
-ghost use Rattle.items.specs.Items.{signOf, nameAt, textItem, pairAt, itemAt};
+ghost use Rattle.numbers.specs.Number.{numberAt};
+ghost use Rattle.items.specs.Items.{signOf, nameAt, numberItem, textItem, pairAt, itemAt};
 use numbers::Numeral;
 use records::Message;
 use strings::Ended;
@@ -50,8 +51,8 @@ pub enum Item {
 }
 
 // What stands at i; past the end a blank. Blanks and newlines are asked for first: they are the commonest.
-pub fn item_at(s: &[u8], i: usize) -> Item
-    ensures { λ r. ⌜ r ≡ itemAt (drop i (now (s .entry))) ⌝ }
+pub fn item_at(rule: u32, s: &[u8], i: usize) -> Item
+    ensures { λ r. ⌜ r ≡ itemAt rule (drop i (now (s .entry))) ⌝ }
 {
     if i >= s.len() {
         return Item::Space;
@@ -67,20 +68,20 @@ pub fn item_at(s: &[u8], i: usize) -> Item
             lines: 1,
         };
     }
-    item_of(s, i)
+    item_of(rule, s, i)
 }
 
 // By the class of its first byte. Letters come first: no sign is one, and of the rest names are the commonest.
-fn item_of(s: &[u8], i: usize) -> Item
+fn item_of(rule: u32, s: &[u8], i: usize) -> Item
     requires { ⌜ i < length (now s) ⌝ }
-    ensures { λ r. ⌜ r ≡ itemAt (drop i (now (s .entry))) ⌝ }
+    ensures { λ r. ⌜ r ≡ itemAt rule (drop i (now (s .entry))) ⌝ }
 {
     let c = s[i];
     if spans::is_alpha(c) {
-        return identifier(s, i);
+        return identifier(rule, s, i);
     }
     if spans::is_digit(c) {
-        return Item::Number(numbers::number(s, i));
+        return number(rule, s, i);
     }
     match sign_of(c) {
         Sign::Newline => Item::Mark {
@@ -102,15 +103,29 @@ fn item_of(s: &[u8], i: usize) -> Item
 }
 
 // The name that starts at i.
-fn identifier(s: &[u8], i: usize) -> Item
+fn identifier(rule: u32, s: &[u8], i: usize) -> Item
     requires { ⌜ i < length (now s) ⌝ }
-    ensures { λ r. ⌜ r ≡ nameAt (drop i (now (s .entry))) ⌝ }
+    ensures { λ r. ⌜ r ≡ nameAt rule (drop i (now (s .entry))) ⌝ }
 {
-    let end = spans::name_end(s, i + 1);
+    let end = rules::name_end(rule, s, i + 1);
     Item::Name {
         kind: Token::keyword(s, i, end).kind,
         size: end - i,
     }
+}
+
+// The number that starts at i, and whether lexing stops at it.
+fn number(rule: u32, s: &[u8], i: usize) -> Item
+    requires { ⌜ i < length (now s) ⌝ }
+    ensures { λ r. ⌜ r ≡ numberItem rule (numberAt (drop i (now (s .entry)))) ⌝ }
+{
+    let n = numbers::number(s, i);
+    Item::Number(Numeral {
+        size: n.size,
+        whole: n.whole,
+        places: n.places,
+        cut: rules::stops_at(rule, n.cut),
+    })
 }
 
 // The string whose opening quote stands at i.

@@ -17,6 +17,7 @@ use Rattle.records.specs.Outcomes as outcomes
 use Rattle.records.proofs.Room.{room-fits, room-length, next-start}
 use Rattle.records.proofs.Put.{put-none, put-take, put-drop, put-length}
 use Rattle.text.specs.Text.{isText}
+use Rattle.rules.specs.Rules.{known}
 use Rattle.lexer.specs.declared.Lexer.{Lexer}
 use Rattle.lexer.specs.declared.Scanned.{Scanned}
 use Rattle.lexer.specs.declared.Next.{Next}
@@ -196,14 +197,14 @@ module _ (u f : List ℕ) where
       (λ m b. scan-says xs m (stepIn x l t e .tokens) (stepIn x l t e .errors) b)
 
 -- ---- from fresh tables
-fresh-tables : (s u f : List ℕ)
-    → Lexing (lexed s (room tokenWidth u) (room errorWidth f)) (scanIn (items s 0) start u f .answer) u (scanIn (items s 0) start u f .tokens) f (scanIn (items s 0) start u f .errors)
+fresh-tables : (rule : ℕ) (s u f : List ℕ)
+    → Lexing (lexed rule s (room tokenWidth u) (room errorWidth f)) (scanIn (items rule s 0) start u f .answer) u (scanIn (items rule s 0) start u f .tokens) f (scanIn (items rule s 0) start u f .errors)
 unfolding lexed
-fresh-tables s u f =
-    scan-says u f (items s 0) start u f (record { same = refl; fits = omega arith; rest = refl }, record { same = refl; fits = omega arith; rest = refl })
+fresh-tables rule s u f =
+    scan-says u f (items rule s 0) start u f (record { same = refl; fits = omega arith; rest = refl }, record { same = refl; fits = omega arith; rest = refl })
 
--- ---- the entry: the length is tested first, then the text
-module _ (s u f u′ f′ : List ℕ) (r : Scanned) where
+-- ---- the entry: the rule is tested first, then the length, then the text
+module _ (rule : ℕ) (s u f u′ f′ : List ℕ) (r : Scanned) where
   refusing : (o : ℕ) → r ≡ record { outcome = o; tokens = 0; errors = 0 } → u′ ≡ u → f′ ≡ f → Lexing (refusal o) r u u′ f f′
   refusing o e g h = record {
     outcome-is = ap (λ (x : Scanned). x .outcome) e;
@@ -213,31 +214,41 @@ module _ (s u f u′ f′ : List ℕ) (r : Scanned) where
     error-table = h;
   }
 
-  by : (a b : Bool) → ltb 65535 (length s) ≡ a → isText s ≡ b
-      → Lexing (pickResult a (refusal outcomes.tooLong) (pickResult (not b) (refusal outcomes.notText) (lexed s (room tokenWidth u) (room errorWidth f)))) r u u′ f f′
-      → Lexing (lexedOf s (room tokenWidth u) (room errorWidth f)) r u u′ f f′
+  -- by the three tests
+  abbrev tested : Bool → Bool → Bool → Result
+  tested k a b = pickResult (not k) (refusal outcomes.wrongRule) (pickResult a (refusal outcomes.tooLong) (pickResult (not b) (refusal outcomes.notText) (lexed rule s (room tokenWidth u) (room errorWidth f))))
+
+  abbrev Lexes : Result → Type 0
+  Lexes d = Lexing d r u u′ f f′
+
+  by : (k a b : Bool) → known rule ≡ k → ltb 65535 (length s) ≡ a → isText s ≡ b → Lexes (tested k a b) → Lexes (lexedOf rule s (room tokenWidth u) (room errorWidth f))
   unfolding lexedOf
-  by a b g h d =
-      subst⁻¹ (λ (c : Bool). Lexing (pickResult c (refusal outcomes.tooLong) (pickResult (not (isText s)) (refusal outcomes.notText) (lexed s (room tokenWidth u) (room errorWidth f)))) r u u′ f f′) g
-      (subst⁻¹ (λ (c : Bool). Lexing (pickResult a (refusal outcomes.tooLong) (pickResult (not c) (refusal outcomes.notText) (lexed s (room tokenWidth u) (room errorWidth f)))) r u u′ f f′) h d)
+  by k a b e g h d =
+      subst⁻¹ (λ (c : Bool). Lexes (tested c (ltb 65535 (length s)) (isText s))) e
+      (subst⁻¹ (λ (c : Bool). Lexes (tested k c (isText s))) g
+      (subst⁻¹ (λ (c : Bool). Lexes (tested k a c)) h d))
 
-  pub too-long : 65535 < length s → r ≡ record { outcome = outcomes.tooLong; tokens = 0; errors = 0 } → u′ ≡ u → f′ ≡ f
-      → Lexing (lexedOf s (room tokenWidth u) (room errorWidth f)) r u u′ f f′
-  too-long l e g h = by true (isText s) (lt-ltb _ _ l) refl (refusing outcomes.tooLong e g h)
+  pub wrong-rule : known rule ≡ false → r ≡ record { outcome = outcomes.wrongRule; tokens = 0; errors = 0 } → u′ ≡ u → f′ ≡ f
+      → Lexes (lexedOf rule s (room tokenWidth u) (room errorWidth f))
+  wrong-rule w e g h = by false (ltb 65535 (length s)) (isText s) w refl refl (refusing outcomes.wrongRule e g h)
 
-  pub no-text : length s ≤ 65535 → isText s ≡ false → r ≡ record { outcome = outcomes.notText; tokens = 0; errors = 0 } → u′ ≡ u → f′ ≡ f
-      → Lexing (lexedOf s (room tokenWidth u) (room errorWidth f)) r u u′ f f′
-  no-text l n e g h = by false false (le-ltb _ _ l) n (refusing outcomes.notText e g h)
+  pub too-long : known rule ≡ true → 65535 < length s → r ≡ record { outcome = outcomes.tooLong; tokens = 0; errors = 0 } → u′ ≡ u → f′ ≡ f
+      → Lexes (lexedOf rule s (room tokenWidth u) (room errorWidth f))
+  too-long w l e g h = by true true (isText s) w (lt-ltb _ _ l) refl (refusing outcomes.tooLong e g h)
 
-  pub lexes : length s ≤ 65535 → isText s ≡ true → Ends (scanIn (items s 0) start u f) r u′ f′
-      → Lexing (lexedOf s (room tokenWidth u) (room errorWidth f)) r u u′ f f′
-  lexes l n d =
-      let w = fresh-tables s u f in
-      by false true (le-ltb _ _ l) n
+  pub no-text : known rule ≡ true → length s ≤ 65535 → isText s ≡ false → r ≡ record { outcome = outcomes.notText; tokens = 0; errors = 0 } → u′ ≡ u → f′ ≡ f
+      → Lexes (lexedOf rule s (room tokenWidth u) (room errorWidth f))
+  no-text w l n e g h = by true false false w (le-ltb _ _ l) n (refusing outcomes.notText e g h)
+
+  pub lexes : known rule ≡ true → length s ≤ 65535 → isText s ≡ true → Ends (scanIn (items rule s 0) start u f) r u′ f′
+      → Lexes (lexedOf rule s (room tokenWidth u) (room errorWidth f))
+  lexes w l n d =
+      let z = fresh-tables rule s u f in
+      by true false true w (le-ltb _ _ l) n
       (record {
-        outcome-is = ap (λ (x : Scanned). x .outcome) (d .answer-is) ∙ w .outcome-is;
-        tokens-are = ap (λ (x : Scanned). x .tokens) (d .answer-is) ∙ w .tokens-are;
-        errors-are = ap (λ (x : Scanned). x .errors) (d .answer-is) ∙ w .errors-are;
-        token-table = d .tokens-are ∙ w .token-table;
-        error-table = d .errors-are ∙ w .error-table;
+        outcome-is = ap (λ (x : Scanned). x .outcome) (d .answer-is) ∙ z .outcome-is;
+        tokens-are = ap (λ (x : Scanned). x .tokens) (d .answer-is) ∙ z .tokens-are;
+        errors-are = ap (λ (x : Scanned). x .errors) (d .answer-is) ∙ z .errors-are;
+        token-table = d .tokens-are ∙ z .token-table;
+        error-table = d .errors-are ∙ z .error-table;
       })

@@ -14,7 +14,8 @@ use Rattle.literal.specs.Value.{valueOf, wordsOf}
 use Rattle.records.specs.declared.TokenData.{TokenData}
 use Rattle.records.specs.Table.{room, tokenWidth, errorWidth}
 use Rattle.records.specs.Words.{tokenWords, errorWords}
-use Rattle.records.specs.Outcomes.{ended, numberAtEnd, notText, tooLong, noTokenRoom, noErrorRoom}
+use Rattle.records.specs.Outcomes.{ended, numberAtEnd, notText, tooLong, noTokenRoom, noErrorRoom, wrongRule}
+use Rattle.rules.specs.Rules.{known}
 use Rattle.lexer.specs.declared.Scanned.{Scanned}
 use Rattle.items.specs.declared.Item.{Item}
 use Rattle.items.specs.declared.Item.the-variants.{Space, Comment, Name, Text, Number, Mark, Wrong}
@@ -133,11 +134,11 @@ module _ (tokenRoom errorRoom : ℕ) where
 abbrev pub fresh : State
 fresh = record { at = 0; line = 1; tokenCount = 0; last = kinds.EOF; tokens = []; errorCount = 0; errors = [] }
 
--- the lexing of a source that is text and not too long, with room for so many tokens and errors
-unfoldable pub lexed : List ℕ → ℕ → ℕ → Result
-lexed s tokenRoom errorRoom = emit tokenRoom errorRoom (items s 0) fresh
+-- the lexing by a rule of a source that is text and not too long, with room for so many tokens and errors
+unfoldable pub lexed : ℕ → List ℕ → ℕ → ℕ → Result
+lexed rule s tokenRoom errorRoom = emit tokenRoom errorRoom (items rule s 0) fresh
 
--- a source that is too long or no text keeps nothing
+-- a refusal keeps nothing
 abbrev pub refusal : ℕ → Result
 refusal o = record { outcome = o; tokenCount = 0; errorCount = 0; tokens = []; errors = [] }
 
@@ -146,10 +147,14 @@ abbrev pub pickResult : Bool → Result → Result → Result
 pickResult true a b = a
 pickResult false a b = b
 
--- the lexing of any bytes: the length is tested first, then the text
-unfoldable pub lexedOf : List ℕ → ℕ → ℕ → Result
-lexedOf s tokenRoom errorRoom =
-    pickResult (ltb 65535 (length s)) (refusal tooLong) (pickResult (not (isText s)) (refusal notText) (lexed s tokenRoom errorRoom))
+-- the lexing of any bytes by a rule that is known: the length is tested first, then the text
+abbrev pub lexedBy : ℕ → List ℕ → ℕ → ℕ → Result
+lexedBy rule s tokenRoom errorRoom =
+    pickResult (ltb 65535 (length s)) (refusal tooLong) (pickResult (not (isText s)) (refusal notText) (lexed rule s tokenRoom errorRoom))
+
+-- the lexing of any bytes by any number: the rule is tested before all else
+unfoldable pub lexedOf : ℕ → List ℕ → ℕ → ℕ → Result
+lexedOf rule s tokenRoom errorRoom = pickResult (not (known rule)) (refusal wrongRule) (lexedBy rule s tokenRoom errorRoom)
 
 -- what a lexing answers, and the tables it leaves: the kept records, and behind them every word unchanged
 pub record Lexing (d : Result) (r : Scanned) (tokens tokens′ errors errors′ : List ℕ) : Type 0 where

@@ -41,18 +41,21 @@ pub struct Scanned {
     pub errors: u32,
 }
 
-// Lexes any bytes into any tables. A source that is too long, or that is no text, changes nothing.
-pub fn scan(source: &[u8], tokens: &mut [u32], errors: &mut [u32]) -> Scanned
-    ensures { λ r. ⌜ Lexing (lexedOf (now (source .entry)) (room tokenWidth (now (tokens .entry))) (room errorWidth (now (errors .entry))))
+// Lexes any bytes into any tables, by a rule. A number that names no rule, and a source that is too long or no text, change nothing.
+pub fn scan(rule: u32, source: &[u8], tokens: &mut [u32], errors: &mut [u32]) -> Scanned
+    ensures { λ r. ⌜ Lexing (lexedOf rule (now (source .entry)) (room tokenWidth (now (tokens .entry))) (room errorWidth (now (errors .entry))))
         r (now (tokens .entry)) (now (tokens .exit)) (now (errors .entry)) (now (errors .exit)) ⌝ }
 {
+    if !rules::is_known(rule) {
+        return refuse(Outcome::WRONG_RULE);
+    }
     if source.len() > 65535 {
         return refuse(Outcome::TOO_LONG);
     }
     if !text::is_text(source) {
         return refuse(Outcome::NOT_TEXT);
     }
-    scan_tokens(source, tokens, errors)
+    scan_tokens(rule, source, tokens, errors)
 }
 
 // A refusal keeps nothing.
@@ -78,9 +81,9 @@ fn ends(outcome: u32, l: Lexer) -> Scanned
 }
 
 // Item by item, up to the end of the source. The next byte's place is a local beside the state, since an index is no field.
-fn scan_tokens(source: &[u8], tokens: &mut [u32], errors: &mut [u32]) -> Scanned
+fn scan_tokens(rule: u32, source: &[u8], tokens: &mut [u32], errors: &mut [u32]) -> Scanned
     requires { ⌜ length (now source) ≤ 65535 ⌝ }
-    ensures { λ r. ⌜ Ends (scanIn (items (now (source .entry)) 0) start (now (tokens .entry)) (now (errors .entry))) r (now (tokens .exit)) (now (errors .exit)) ⌝ }
+    ensures { λ r. ⌜ Ends (scanIn (items rule (now (source .entry)) 0) start (now (tokens .entry)) (now (errors .entry))) r (now (tokens .exit)) (now (errors .exit)) ⌝ }
 {
     let mut l = Lexer {
         current: 0,
@@ -91,7 +94,7 @@ fn scan_tokens(source: &[u8], tokens: &mut [u32], errors: &mut [u32]) -> Scanned
     };
     let mut at = 0;
     while at < source.len() {
-        let x = items::item_at(source, at);
+        let x = items::item_at(rule, source, at);
         match scan_token(tokens, errors, l, x) {
             Next::On(m) => {
                 l = m;

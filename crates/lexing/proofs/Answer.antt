@@ -10,6 +10,7 @@ use lib.Dec.{ltb}
 use lib.ListN.{length, drop, length-append}
 use lib.Seq.{length-front, length-take-le}
 use Rattle.text.specs.Text.{isText}
+use Rattle.rules.specs.Rules.{known}
 use Rattle.records.specs.Table.{room, tokenWidth, errorWidth}
 use Rattle.records.specs.Words.{tokenWords, errorWords}
 use Rattle.records.proofs.Room.{room-fits, room-length}
@@ -38,45 +39,51 @@ room-words w t (suc n) h = let e = mul-suc w n in let f : w * n + w ≤ length t
 front-room : (w : ℕ) (t ws : List ℕ) → length ws ≤ length t → room w (ws ++ drop (length ws) t) ≡ room w t
 front-room w t ws h = room-length w (ws ++ drop (length ws) t) t (length-front t ws (length ws) (sym (length-take-le (length ws) t h)))
 
--- ---- of the entry: whatever holds of a refusal and of a lexing holds of its answer
-pub entry : (P : Result → Type 0) (s : List ℕ) (tokenRoom errorRoom : ℕ) → ((o : ℕ) → P (refusal o)) → P (lexed s tokenRoom errorRoom) → P (lexedOf s tokenRoom errorRoom)
+-- ---- of the entry: whatever holds of its three refusals and of a lexing holds of its answer
+pub tests : (P : Result → Type 0) (rule : ℕ) (s : List ℕ) (tokenRoom errorRoom : ℕ) → P (refusal 13) → P (refusal 4) → P (refusal 3) → P (lexed rule s tokenRoom errorRoom)
+    → P (lexedOf rule s tokenRoom errorRoom)
 unfolding lexedOf
-entry P s tokenRoom errorRoom f g = go (ltb 65535 (length s)) (isText s)
+tests P rule s tokenRoom errorRoom w l x g = go (known rule) (ltb 65535 (length s)) (isText s)
   where
-    go : (a b : Bool) → P (pickResult a (refusal 4) (pickResult (not b) (refusal 3) (lexed s tokenRoom errorRoom)))
-    go true b = f 4
-    go false true = g
-    go false false = f 3
+    go : (k a b : Bool) → P (pickResult (not k) (refusal 13) (pickResult a (refusal 4) (pickResult (not b) (refusal 3) (lexed rule s tokenRoom errorRoom))))
+    go false a b = w
+    go true true b = l
+    go true false false = x
+    go true false true = g
+
+-- of every refusal
+pub entry : (P : Result → Type 0) (rule : ℕ) (s : List ℕ) (tokenRoom errorRoom : ℕ) → ((o : ℕ) → P (refusal o)) → P (lexed rule s tokenRoom errorRoom) → P (lexedOf rule s tokenRoom errorRoom)
+entry P rule s tokenRoom errorRoom f g = tests P rule s tokenRoom errorRoom (f 13) (f 4) (f 3) g
 
 -- the token count is at most the bytes plus 2
-pub token-count : (s : List ℕ) (tokenRoom errorRoom : ℕ) → lexedOf s tokenRoom errorRoom .tokenCount ≤ length s + 2
-token-count s tokenRoom errorRoom =
-    entry (λ r. r .tokenCount ≤ length s + 2) s tokenRoom errorRoom (λ o. omega arith)
-    (ending-count (length s) (lexed s tokenRoom errorRoom) (lexed-keeps s tokenRoom errorRoom .ending))
+pub token-count : (rule : ℕ) (s : List ℕ) (tokenRoom errorRoom : ℕ) → lexedOf rule s tokenRoom errorRoom .tokenCount ≤ length s + 2
+token-count rule s tokenRoom errorRoom =
+    entry (λ r. r .tokenCount ≤ length s + 2) rule s tokenRoom errorRoom (λ o. omega arith)
+    (ending-count (length s) (lexed rule s tokenRoom errorRoom) (lexed-keeps rule s tokenRoom errorRoom .ending))
 
 -- the kept words lie within the tables
-pub tokens-within : (s t : List ℕ) (errorRoom : ℕ) → length (lexedOf s (room tokenWidth t) errorRoom .tokens) ≤ length t
-tokens-within s t errorRoom =
-    entry (λ r. length (r .tokens) ≤ length t) s (room tokenWidth t) errorRoom (λ o. omega arith)
-    (let r = lexed s (room tokenWidth t) errorRoom in
-    let k = lexed-keeps s (room tokenWidth t) errorRoom in
+pub tokens-within : (rule : ℕ) (s t : List ℕ) (errorRoom : ℕ) → length (lexedOf rule s (room tokenWidth t) errorRoom .tokens) ≤ length t
+tokens-within rule s t errorRoom =
+    entry (λ r. length (r .tokens) ≤ length t) rule s (room tokenWidth t) errorRoom (λ o. omega arith)
+    (let r = lexed rule s (room tokenWidth t) errorRoom in
+    let k = lexed-keeps rule s (room tokenWidth t) errorRoom in
     let e : length (r .tokens) ≡ tokenWidth * r .tokenCount = ending-words (length s) r (k .ending) in
     let w : tokenWidth * r .tokenCount ≤ length t = room-words tokenWidth t (r .tokenCount) (k .token-room) in
     omega arith)
 
-pub errors-within : (s e : List ℕ) (tokenRoom : ℕ) → length (lexedOf s tokenRoom (room errorWidth e) .errors) ≤ length e
-errors-within s e tokenRoom =
-    entry (λ r. length (r .errors) ≤ length e) s tokenRoom (room errorWidth e) (λ o. omega arith)
-    (let r = lexed s tokenRoom (room errorWidth e) in
-    let k = lexed-keeps s tokenRoom (room errorWidth e) in
+pub errors-within : (rule : ℕ) (s e : List ℕ) (tokenRoom : ℕ) → length (lexedOf rule s tokenRoom (room errorWidth e) .errors) ≤ length e
+errors-within rule s e tokenRoom =
+    entry (λ r. length (r .errors) ≤ length e) rule s tokenRoom (room errorWidth e) (λ o. omega arith)
+    (let r = lexed rule s tokenRoom (room errorWidth e) in
+    let k = lexed-keeps rule s tokenRoom (room errorWidth e) in
     let x : length (r .errors) ≡ errorWidth * r .errorCount = rows-length errorWords (Placed (length s)) errorWidth (λ d. refl) (r .errors) (r .errorCount) (k .errors) in
     let w : errorWidth * r .errorCount ≤ length e = room-words errorWidth e (r .errorCount) (k .error-room) in
     omega arith)
 
 -- lexing once more into the tables as the first lexing left them gives the same lists
-pub second-lexing : (s t e : List ℕ) → let d = lexedOf s (room tokenWidth t) (room errorWidth e) in
-    lexedOf s (room tokenWidth (d .tokens ++ drop (length (d .tokens)) t)) (room errorWidth (d .errors ++ drop (length (d .errors)) e)) ≡ d
-second-lexing s t e =
-    let d = lexedOf s (room tokenWidth t) (room errorWidth e) in
-    ap (λ (n : ℕ). lexedOf s n (room errorWidth (d .errors ++ drop (length (d .errors)) e))) (front-room tokenWidth t (d .tokens) (tokens-within s t (room errorWidth e)))
-    ∙ ap (lexedOf s (room tokenWidth t)) (front-room errorWidth e (d .errors) (errors-within s e (room tokenWidth t)))
+pub second-lexing : (rule : ℕ) (s t e : List ℕ) → let d = lexedOf rule s (room tokenWidth t) (room errorWidth e) in
+    lexedOf rule s (room tokenWidth (d .tokens ++ drop (length (d .tokens)) t)) (room errorWidth (d .errors ++ drop (length (d .errors)) e)) ≡ d
+second-lexing rule s t e =
+    let d = lexedOf rule s (room tokenWidth t) (room errorWidth e) in
+    ap (λ (n : ℕ). lexedOf rule s n (room errorWidth (d .errors ++ drop (length (d .errors)) e))) (front-room tokenWidth t (d .tokens) (tokens-within rule s t (room errorWidth e)))
+    ∙ ap (lexedOf rule s (room tokenWidth t)) (front-room errorWidth e (d .errors) (errors-within rule s e (room tokenWidth t)))

@@ -47,13 +47,13 @@ rising _ _ _ _ (behind {ws} {n} {end} {line} o d a b c) =
           (lt-or-le j n);
     }
 
-lexed-begins : (s : List ℕ) (tokenRoom errorRoom : ℕ) → Begun s (lexed s tokenRoom errorRoom)
-lexed-begins s tokenRoom errorRoom =
-    let k = lexed-keeps s tokenRoom errorRoom in
+lexed-begins : (rule : ℕ) (s : List ℕ) (tokenRoom errorRoom : ℕ) → Begun s (lexed rule s tokenRoom errorRoom)
+lexed-begins rule s tokenRoom errorRoom =
+    let k = lexed-keeps rule s tokenRoom errorRoom in
     let o = k .order in
     record { tokens = k .begins; never-falls = rising _ _ (o .0) (o .1) (o .2) .never-falls }
 
 -- any bytes: every token that is kept begins where its bytes say, and none on an earlier line than one before it
-pub lexing-begins : (s : List ℕ) (tokenRoom errorRoom : ℕ) → Begun s (lexedOf s tokenRoom errorRoom)
-lexing-begins s tokenRoom errorRoom =
-    entry (Begun s) s tokenRoom errorRoom (λ o. record { tokens = none; never-falls = λ i j h l. absurd (omega arith) }) (lexed-begins s tokenRoom errorRoom)
+pub lexing-begins : (rule : ℕ) (s : List ℕ) (tokenRoom errorRoom : ℕ) → Begun s (lexedOf rule s tokenRoom errorRoom)
+lexing-begins rule s tokenRoom errorRoom =
+    entry (Begun s) rule s tokenRoom errorRoom (λ o. record { tokens = none; never-falls = λ i j h l. absurd (omega arith) }) (lexed-begins rule s tokenRoom errorRoom)

@@ -41,23 +41,23 @@ less-suc : (n : ℕ) → 1 ≤ n → suc (less n) ≡ n
 less-suc zero h = absurd (omega arith)
 less-suc (suc n) h = refl
 
-items-sound : (s : List ℕ) (k : ℕ) → Sounds (items s k) (drop k s)
-items-sound [] k = tt
-items-sound (b ∷ s) zero =
-    let n = sizeOf (itemOf b s) in
-    let z = item-bounded b s in
-    ((item-tells b s, z .0, z .2), subst (λ (m : ℕ). Sounds (items s (less n)) (drop m (b ∷ s))) (less-suc n (z .0)) (items-sound s (less n)))
-items-sound (b ∷ s) (suc k) = items-sound s k
+items-sound : (rule : ℕ) (s : List ℕ) (k : ℕ) → Sounds (items rule s k) (drop k s)
+items-sound rule [] k = tt
+items-sound rule (b ∷ s) zero =
+    let n = sizeOf (itemOf rule b s) in
+    let z = item-bounded rule b s in
+    ((item-tells rule b s, z .0, z .2), subst (λ (m : ℕ). Sounds (items rule s (less n)) (drop m (b ∷ s))) (less-suc n (z .0)) (items-sound rule s (less n)))
+items-sound rule (b ∷ s) (suc k) = items-sound rule s k
 
-items-total : (s : List ℕ) (k : ℕ) → k ≤ length s → total (items s k) + k ≡ length s
-items-total [] k h = omega arith
-items-total (b ∷ s) zero h =
-    let x = itemOf b s in
-    let z = item-bounded b s in
+items-total : (rule : ℕ) (s : List ℕ) (k : ℕ) → k ≤ length s → total (items rule s k) + k ≡ length s
+items-total rule [] k h = omega arith
+items-total rule (b ∷ s) zero h =
+    let x = itemOf rule b s in
+    let z = item-bounded rule b s in
     let l : suc (less (sizeOf x)) ≡ sizeOf x = less-suc (sizeOf x) (z .0) in
-    let e : total (items s (less (sizeOf x))) + less (sizeOf x) ≡ length s = items-total s (less (sizeOf x)) (omega arith) in
+    let e : total (items rule s (less (sizeOf x))) + less (sizeOf x) ≡ length s = items-total rule s (less (sizeOf x)) (omega arith) in
     omega arith
-items-total (b ∷ s) (suc k) h = let e : total (items s k) + k ≡ length s = items-total s k (omega arith) in omega arith
+items-total rule (b ∷ s) (suc k) h = let e : total (items rule s k) + k ≡ length s = items-total rule s k (omega arith) in omega arith
 
 -- ---- a state of a lexing of s; c: how many tokens may be more than the bytes passed
 record Fine (s : List ℕ) (tokenRoom errorRoom c : ℕ) (t : State) : Type 0 where
@@ -261,11 +261,11 @@ module _ (s : List ℕ) (tokenRoom errorRoom : ℕ) where
       (λ u g h. emit-keeps xs u (subst (Sounds xs) (drop-drop (sizeOf x) (t .at) s ∙ ap (λ (j : ℕ). drop j s) (sym h)) (z .1)) (omega arith) g)
 
 -- every lexing keeps good tokens and errors, within the rooms
-pub lexed-keeps : (s : List ℕ) (tokenRoom errorRoom : ℕ) → Keeps s tokenRoom errorRoom (lexed s tokenRoom errorRoom)
+pub lexed-keeps : (rule : ℕ) (s : List ℕ) (tokenRoom errorRoom : ℕ) → Keeps s tokenRoom errorRoom (lexed rule s tokenRoom errorRoom)
 unfolding lexed
-lexed-keeps s tokenRoom errorRoom =
-    let e : total (items s 0) + 0 ≡ length s = items-total s 0 (omega arith) in
-    emit-keeps s tokenRoom errorRoom (items s 0) fresh (items-sound s 0) (omega arith)
+lexed-keeps rule s tokenRoom errorRoom =
+    let e : total (items rule s 0) + 0 ≡ length s = items-total rule s 0 (omega arith) in
+    emit-keeps s tokenRoom errorRoom (items rule s 0) fresh (items-sound rule s 0) (omega arith)
     (record {
       tokens-good = none;
       tokens-begin = none;

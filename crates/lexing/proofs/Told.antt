@@ -12,6 +12,8 @@ use lib.Seq.{take-add}
 use Rattle.token.specs.Kind as kinds
 use Rattle.token.proofs.Range.{kind-range}
 use Rattle.spans.specs.Span.{isAlpha, isDigit, run, count}
+use Rattle.rules.specs.Rules.{isNamed}
+use Rattle.rules.proofs.Laws.{newline-ends}
 use Rattle.numbers.specs.Number.{pointSize, pointed, numberSize}
 use Rattle.records.specs.Messages.{loneBang}
 use Rattle.strings.specs.declared.Reading.{Reading}
@@ -189,25 +191,25 @@ pair-tells k l b (x ∷ s) e t u = at (eqb x 61) refl
     at true h = no-line l 2 0 (b ∷ x ∷ s) (mark-kind l u) (quiet b (x ∷ []) e ∙ quiet x [] (no-newline (λ c. eqb c 61) refl x h))
     at false h = lone-tells b (x ∷ s) e k t
 
-sign-tells : (z : Sign) (b : ℕ) (s : List ℕ) → eqb b 10 ≡ false → T (fit z) → Tells (itemAs (sign z) b s) (b ∷ s)
-sign-tells Newline b s e t = absurd t
-sign-tells Blank b s e t = tt
-sign-tells Hash b s e t = tt
-sign-tells Quote b s e t = text-tells b s e (readOf s begun) (counts s begun)
-sign-tells (Single k) b s e t = mark-tells b s e k t
-sign-tells (Pair k l) b s e t = pair-tells k l b s e (and-l (eqb k kinds.EOF || isMark k) (isMark l) t) (and-r (eqb k kinds.EOF || isMark k) (isMark l) t)
-sign-tells Illegal b s e t = (lit≤ tt, lit≤ tt)
+sign-tells : (rule : ℕ) (z : Sign) (b : ℕ) (s : List ℕ) → eqb b 10 ≡ false → T (fit z) → Tells (itemAs rule (sign z) b s) (b ∷ s)
+sign-tells rule Newline b s e t = absurd t
+sign-tells rule Blank b s e t = tt
+sign-tells rule Hash b s e t = tt
+sign-tells rule Quote b s e t = text-tells b s e (readOf s begun) (counts s begun)
+sign-tells rule (Single k) b s e t = mark-tells b s e k t
+sign-tells rule (Pair k l) b s e t = pair-tells k l b s e (and-l (eqb k kinds.EOF || isMark k) (isMark l) t) (and-r (eqb k kinds.EOF || isMark k) (isMark l) t)
+sign-tells rule Illegal b s e t = (lit≤ tt, lit≤ tt)
 
 -- the first sign of the table is the newline
-pub item-tells : (b : ℕ) (s : List ℕ) → Tells (itemOf b s) (b ∷ s)
+pub item-tells : (rule b : ℕ) (s : List ℕ) → Tells (itemOf rule b s) (b ∷ s)
 unfolding signOf
-item-tells b s = at (isAlpha b) (isDigit b) (eqb b 10) refl refl refl
+item-tells rule b s = at (isAlpha b) (isDigit b) (eqb b 10) refl refl refl
   where
     at : (p q r : Bool) → isAlpha b ≡ p → isDigit b ≡ q → eqb b 10 ≡ r
-        → Tells (itemAs (pickClass p letter (pickClass q digit (sign (pickSign r Newline (find b (tail signs)))))) b s) (b ∷ s)
+        → Tells (itemAs rule (pickClass p letter (pickClass q digit (sign (pickSign r Newline (find b (tail signs)))))) b s) (b ∷ s)
     at true q r h i j =
-        let k = kind-range (b ∷ take (run isAlpha s) s) in
-        no-line _ _ _ _ (omega arith, k .1) (quiet b (take (run isAlpha s) s) (no-newline isAlpha refl b h) ∙ run-quiet isAlpha refl s)
+        let k = kind-range (b ∷ take (run (isNamed rule) s) s) in
+        no-line _ _ _ _ (omega arith, k .1) (quiet b (take (run (isNamed rule) s) s) (no-newline isAlpha refl b h) ∙ run-quiet (isNamed rule) (newline-ends rule) s)
     at false true r h i j = no-line _ _ _ _ (lit≤ tt, lit≤ tt) (quiet b (take (numberSize s) s) (no-newline isDigit refl b i) ∙ number-quiet s)
     at false false true h i j = record { kind-from = lit≤ tt; kind-to = lit≤ tt; among = ap (λ (c : Bool). cond c 1 0 + 0) j; newline = λ e l. refl }
-    at false false false h i j = sign-tells (find b (tail signs)) b s j (find-fit b (tail signs) tt)
+    at false false false h i j = sign-tells rule (find b (tail signs)) b s j (find-fit b (tail signs) tt)

@@ -1,2 +1,3 @@
 pub mod Begins
 pub mod Kept
+pub mod Ends

@@ -4,7 +4,7 @@ ghost use Rattle.steps.specs.Steps.{begun, nextOf};
 use entry::Answer;
 use host::Parser;
 
-// `begin` for Rust and C: lexes the source, and leaves a parser that reads its statements. Of the parser that is lent only the way counts.
+// `begin` for Rust and C: lexes the source, and leaves a parser that reads its statements. Of the parser that is lent only the rule and the way count.
 #[no_mangle]
 pub extern "C" fn kettleplume_begin(
     parser: &mut Parser,

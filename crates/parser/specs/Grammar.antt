@@ -15,7 +15,7 @@ use Rattle.parser.specs.declared.Got.the-variants.{Stop}
 use Rattle.parser.specs.Tokens.{count}
 use Rattle.parser.specs.Tables.{reply, plain}
 use Rattle.parser.specs.Nodes.{fnExprRow, varRow, listRow, dictionaryRow, assignRow, accessRow, binaryRow, callRow, getRow, setRow, superRow, groupingRow, literalRow, logicalRow, thisRow, unaryRow, emptyRow, fnRow, letRow, blockRow, classRow, classicForRow, enhancedForRow, whileRow, ifRow, continueRow, returnRow, breakRow, tryCatchRow, exprRow, elifRow, nameRow}
-use Rattle.parser.specs.Programs.{Reader, Which, Declaration, Assignment, Operand, Prog, give, stop, _>>=_, _>>_, look, check, atEnd, previous, node, link, fail, failAt, consume, require, enterLoop, leaveLoop, insideLoop, inFunction, down, run}
+use Rattle.parser.specs.Programs.{Reader, Which, Declaration, Assignment, Operand, Prog, give, stop, _>>=_, _>>_, look, check, atEnd, previous, node, link, fail, failAt, consume, require, enterLoop, leaveLoop, giveBack, insideLoop, inFunction, down, run}
 
 -- ---- what readers build
 -- a list's first member: the one it has, or the one that is added
@@ -213,6 +213,7 @@ module _ (T : List ℕ) where
     consume In expectedIn
     collection ← expression
     stmt ← down Declaration
+    giveBack
     node (enhancedForRow keyword (ids .node) (collection .node) (stmt .node))
 
   -- `for_loop`

@@ -4,6 +4,7 @@ use mathlib.Core.Bool.{Bool, true, false}
 use mathlib.Core.List.{List}
 use lib.Dec.{ltb, eqb}
 use Rattle.token.specs.Kind.{EOF}
+use Rattle.rules.specs.Rules.{loopsBehind}
 use Rattle.records.specs.Table.{linked}
 use Rattle.records.specs.declared.Node as rows
 use Rattle.parser.specs.declared.State.{State}
@@ -47,9 +48,10 @@ pub data Prog : Type 0 where
   -- `self.consume(kind, message)`, and the same unwrapped
   consume : ℕ → ℕ → Prog
   require : ℕ → ℕ → Prog
-  -- `self.enter_loop()`, `self.leave_loop()`, `if self.inside_loop()`
+  -- `self.enter_loop()`, `self.leave_loop()`, the same behind an enhanced for where the rule says so, `if self.inside_loop()`
   enterLoop : Prog
   leaveLoop : Prog
+  giveBack : Prog
   insideLoop : Prog → Prog → Prog
   -- `self.enter_function(name)`, the program, `self.leave_function(name)`; the name's token, and 0 for a lambda
   inFunction : ℕ → Prog → Prog
@@ -88,6 +90,7 @@ run T low (consume kind message) p E N = consumeAt T kind message p E N
 run T low (require kind message) p E N = requireAt T kind message p E N
 run T low enterLoop p E N = reply (looped p (raised (p .loops))) (Node (plain 0)) E N
 run T low leaveLoop p E N = reply (looped p (p .loops - 1)) (Node (plain 0)) E N
+run T low giveBack p E N = reply (looped p (loopsBehind (p .rule) (p .loops))) (Node (plain 0)) E N
 run T low (insideLoop found missing) p E N = either (eqb (p .loops) 0) (λ _. run T low missing p E N) λ _. run T low found p E N
 run T low (inFunction name m) p E N = restored p (run T low m (looped p 0) E N)
 run T low (down w) p E N = low w p E N

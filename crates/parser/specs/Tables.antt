@@ -23,23 +23,23 @@ pub data Reply : Type 0 where
 
 -- the reading goes on at token i
 abbrev pub moved : State → ℕ → State
-moved p i = record { current = i; errors = p .errors; nodes = p .nodes; loops = p .loops }
+moved p i = record { rule = p .rule; current = i; errors = p .errors; nodes = p .nodes; loops = p .loops }
 
 -- the reading goes on with so many open loops
 abbrev pub looped : State → ℕ → State
-looped p n = record { current = p .current; errors = p .errors; nodes = p .nodes; loops = n }
+looped p n = record { rule = p .rule; current = p .current; errors = p .errors; nodes = p .nodes; loops = n }
 
 -- with so many nodes
 abbrev pub withNodes : State → ℕ → State
-withNodes p n = record { current = p .current; errors = p .errors; nodes = n; loops = p .loops }
+withNodes p n = record { rule = p .rule; current = p .current; errors = p .errors; nodes = n; loops = p .loops }
 
 -- with so many errors
 abbrev pub withErrors : State → ℕ → State
-withErrors p n = record { current = p .current; errors = n; nodes = p .nodes; loops = p .loops }
+withErrors p n = record { rule = p .rule; current = p .current; errors = n; nodes = p .nodes; loops = p .loops }
 
--- the state that a parsing starts in, with so many errors recorded before
-abbrev pub freshState : ℕ → State
-freshState errors = record { current = 0; errors = errors; nodes = 0; loops = 0 }
+-- the state that a parsing starts in, by a rule and with so many errors recorded before
+abbrev pub freshState : ℕ → ℕ → State
+freshState rule errors = record { rule = rule; current = 0; errors = errors; nodes = 0; loops = 0 }
 
 -- one node more
 abbrev pub withNode : State → State

@@ -54,9 +54,9 @@ statements (suc f) T first last p E N =
     ifEnd (eqb (kindAt T (p .current)) EOF) (λ _. ends ended first (p .nodes) (p .errors) E N) λ _.
     orEnds first (p .nodes) (topLevel T p E N) λ n q E N. statements f T (firstOf first n) n q E (linked N last n)
 
--- the parsing of a token table, with so many errors recorded before
-unfoldable pub parsed : List ℕ → ℕ → List ℕ → List ℕ → Parsed
-parsed T errors E N = statements (suc (count T)) T 0 0 (freshState errors) E N
+-- the parsing of a token table by a rule, with so many errors recorded before
+unfoldable pub parsed : ℕ → List ℕ → ℕ → List ℕ → List ℕ → Parsed
+parsed rule T errors E N = statements (suc (count T)) T 0 0 (freshState rule errors) E N
 
 -- what a parsing answers, and the tables it leaves
 pub record Parsing (d : Parsed) (r : answers.Parsed) (errors′ nodes′ : List ℕ) : Type 0 where

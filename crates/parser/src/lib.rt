@@ -5,16 +5,20 @@ ghost use mathlib.Core.Bool.{not};
 ghost use Prim.Native.Nat.{ℕ, _-_};
 ghost use lib.Dec.{eqb};
 ghost use Rattle.token.specs.Kind.{EOF};
+ghost use Rattle.rules.specs.Rules.{loopsBehind};
 ghost use Rattle.parser.specs.Tokens.{kindAt, startAt, lineAt, after, skipLines, peekAt, checkAt, matchesAt};
 ghost use Rattle.parser.specs.Tables.{Reply, reply, moved, looped, withNodes, withErrors, freshState, errorAt, pushNode, pushError, plain, consumeAt, requireAt};
 ghost use Rattle.parser.specs.Programs.{raised};
 ghost use Rattle.parser.specs.Grammar.{firstOf};
 use records::InterpreterError;
 use records::Node;
+use rules::Rule;
 use token::Token;
 
-// Where the reading is: the token at the cursor, how many errors and nodes stand in their tables, and the open loops of the innermost function.
+// Where the reading is: the token at the cursor, how many errors and nodes stand in their tables, and the open loops of the innermost function. The rule is
+// carried along, and no reader changes it.
 pub struct State {
+    pub rule: u32,
     pub current: u32,
     pub errors: u32,
     pub nodes: u32,
@@ -157,6 +161,7 @@ impl State {
         ensures { λ r. ⌜ r ≡ moved self i ⌝ }
     {
         State {
+            rule: self.rule,
             current: i,
             errors: self.errors,
             nodes: self.nodes,
@@ -169,6 +174,7 @@ impl State {
         ensures { λ r. ⌜ r ≡ looped self n ⌝ }
     {
         State {
+            rule: self.rule,
             current: self.current,
             errors: self.errors,
             nodes: self.nodes,
@@ -181,6 +187,7 @@ impl State {
         ensures { λ r. ⌜ r ≡ withNodes self n ⌝ }
     {
         State {
+            rule: self.rule,
             current: self.current,
             errors: self.errors,
             nodes: n,
@@ -193,6 +200,7 @@ impl State {
         ensures { λ r. ⌜ r ≡ withErrors self n ⌝ }
     {
         State {
+            rule: self.rule,
             current: self.current,
             errors: n,
             nodes: self.nodes,
@@ -200,11 +208,12 @@ impl State {
         }
     }
 
-    // The state that a parsing starts in, with so many errors recorded before.
-    pub fn fresh(errors: u32) -> Self
-        ensures { λ r. ⌜ r ≡ freshState errors ⌝ }
+    // The state that a parsing starts in, by a rule and with so many errors recorded before.
+    pub fn fresh(rule: u32, errors: u32) -> Self
+        ensures { λ r. ⌜ r ≡ freshState rule errors ⌝ }
     {
         State {
+            rule,
             current: 0,
             errors,
             nodes: 0,
@@ -237,6 +246,16 @@ impl State {
             return self.with_loops(0);
         }
         self.with_loops(n - 1)
+    }
+
+    // Behind an enhanced for: rule two leaves its loop as a classic for's is left; rule one keeps the count, as the Rust does.
+    pub fn give_back(self) -> Self
+        ensures { λ r. ⌜ r ≡ looped self (loopsBehind (self .rule) (self .loops)) ⌝ }
+    {
+        if self.rule == Rule::TWO {
+            return self.leave_loop();
+        }
+        self
     }
 
     pub fn inside_loop(self) -> bool

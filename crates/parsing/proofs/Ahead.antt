@@ -23,7 +23,7 @@ use Rattle.parser.specs.declared.Seen.{Seen}
 use Rattle.parser.specs.declared.Seen.the-variants.{At, Nothing}
 use Rattle.parser.specs.Tokens.{count, kindAt, after, skipFrom, skipLines, seenIf, checkAt, matchesAt}
 use Rattle.parser.specs.Tables.{Reply, reply, moved, looped, freshState, plain, pushNode, pushError, ifSeen, andThen, consumeAt, requireAt}
-use Rattle.parser.specs.Programs.{Reader, Which, Declaration, Assignment, Operand, Prog, give, stop, _>>=_, _>>_, look, check, atEnd, previous, node, link, fail, failAt, consume, require, enterLoop, leaveLoop, insideLoop, inFunction, down, either, restored, run}
+use Rattle.parser.specs.Programs.{Reader, Which, Declaration, Assignment, Operand, Prog, give, stop, _>>=_, _>>_, look, check, atEnd, previous, node, link, fail, failAt, consume, require, enterLoop, leaveLoop, giveBack, insideLoop, inFunction, down, either, restored, run}
 use Rattle.parser.specs.Grammar.{firstOf, property, when, assigned, Level, levels, fuel, blockFrom, block, expressionStmt, parametersFrom, parameters, functionBody, fnStmt, fnExpr, methodsFrom, class, letStmt, namesFrom, enhancedFor, classicFor, forLoop, tryCatch, elifsFrom, elseFrom, ifStmt, ret, brk, cont, whileStmt, statement, declaration, argumentsFrom, arguments, list, dictElementsFrom, dictionary, closed, access, superExpr, primary, finishCall, callFrom, call, unary, lookMany, binaryFrom, binary, assignment, body, lower}
 use Rattle.parser.specs.Whole.{Parsed, topLevel, orEnds, ifEnd, statements, parsed}
 use Rattle.parser.proofs.Push.{push-nodes, push-errors}
@@ -54,6 +54,7 @@ Kept e (consume kind message) = dec.T (isParsers message)
 Kept e (require kind message) = dec.T (isParsers message)
 Kept e enterLoop = Unit {0}
 Kept e leaveLoop = Unit {0}
+Kept e giveBack = Unit {0}
 Kept e (insideLoop found missing) = Kept e found × Kept e missing
 Kept e (inFunction name m) = Kept e m
 Kept e (down w) = Unit {0}
@@ -123,7 +124,7 @@ module _ (T : List ℕ) (e : ℕ) where
 
   enhanced-kept : (keyword : ℕ) → Kept e (enhancedFor T keyword)
   unfolding enhancedFor
-  enhanced-kept keyword = (names-from-kept (fuel T) 0 0, λ ids. (tt, (tt, λ v. (tt, λ s. tt))))
+  enhanced-kept keyword = (names-from-kept (fuel T) 0 0, λ ids. (tt, (tt, λ v. (tt, λ s. (tt, tt)))))
 
   classic-kept : (keyword : ℕ) → Kept e (classicFor T keyword)
   unfolding classicFor
@@ -397,6 +398,7 @@ module _ (T T′ : List ℕ) (e : ℕ) (a : Agree e T T′) where
     run-ahead (require kind message) k p E N l = ahead-require kind message p E N l
     run-ahead enterLoop k p E N l = ahead _ _ E N l tt
     run-ahead leaveLoop k p E N l = ahead _ _ E N l tt
+    run-ahead giveBack k p E N l = ahead _ _ E N l tt
     run-ahead (insideLoop found missing) k p E N l = ahead-either e (eqb (p .loops) 0) _ _ _ _ (run-ahead missing (k .1) p E N l) (run-ahead found (k .0) p E N l)
     run-ahead (inFunction name m) k p E N l = ahead-restored e p (run-ahead m k (looped p 0) E N l)
     run-ahead (down w) k p E N l = g w p E N l
@@ -435,9 +437,9 @@ module _ (T T′ : List ℕ) (e : ℕ) (a : Agree e T T′) where
       (same-or first (p .nodes) _ _ (top-ahead p E N l) λ m q E N h. statements-tokens n (firstOf first m) m q E (linked N last m) h))
 
   -- a parsing depends on the tokens up to an EOF, and on how many tokens the table has room for
-  pub parsed-tokens : (errors : ℕ) (E N : List ℕ) → parsed T errors E N ≡ parsed T′ errors E N
+  pub parsed-tokens : (rule errors : ℕ) (E N : List ℕ) → parsed rule T errors E N ≡ parsed rule T′ errors E N
   unfolding parsed
-  parsed-tokens errors E N = rw (← a .counts) (statements-tokens (suc (count T)) 0 0 (freshState errors) E N (omega arith))
+  parsed-tokens rule errors E N = rw (← a .counts) (statements-tokens (suc (count T)) 0 0 (freshState rule errors) E N (omega arith))
 
 -- ---- the outcomes
 module _ (T : List ℕ) where
@@ -460,14 +462,14 @@ module _ (T : List ℕ) where
   statements-stop (suc n) first last p E N l = stops-if (eqb (kindAt T (p .current)) 0) _ _ tt (stops-or (count T) first (p .nodes) _ (top-ahead T T (count T) (agree-self T (count T) past-end) p E N l) λ m q E N h. statements-stop n (firstOf first m) m q E (linked N last m) h)
 
   -- a parsing ends with outcome 0, 1, 6, 7 or 8
-  pub parsed-outcome : (errors : ℕ) (E N : List ℕ) → isOutcome (parsed T errors E N .outcome) ≡ true
+  pub parsed-outcome : (rule errors : ℕ) (E N : List ℕ) → isOutcome (parsed rule T errors E N .outcome) ≡ true
   unfolding parsed
-  parsed-outcome errors E N = go (isOutcome o) refl (eqb o 99) refl (statements-stop (suc (count T)) 0 0 (freshState errors) E N (omega arith))
+  parsed-outcome rule errors E N = go (isOutcome o) refl (eqb o 99) refl (statements-stop (suc (count T)) 0 0 (freshState rule errors) E N (omega arith))
     where
       o : ℕ
-      o = parsed T errors E N .outcome
+      o = parsed rule T errors E N .outcome
 
       go : (b : Bool) → isOutcome o ≡ b → (c : Bool) → eqb o 99 ≡ c → dec.T (b || c) → isOutcome o ≡ true
       go true s c t x = s
-      go false s true t x = absurd (parsed-never-spent T errors E N (eqb-true o 99 t))
+      go false s true t x = absurd (parsed-never-spent rule T errors E N (eqb-true o 99 t))
       go false s false t x = absurd x

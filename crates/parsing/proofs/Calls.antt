@@ -7,6 +7,7 @@ use native.Mathlib.Omega.{arith}
 use borrow.Author.Tests.{eq-eqb}
 use lib.Dec.{eqb}
 use lib.ListN.{length}
+use Rattle.rules.specs.Rules.{loopsBehind}
 use Rattle.records.specs.Table.{linked}
 use Rattle.records.specs.declared.Node as rows
 use Rattle.parser.specs.declared.State.{State}
@@ -16,7 +17,7 @@ use Rattle.parser.specs.declared.Seen.the-variants.{At, Nothing}
 use Rattle.parser.specs.declared.Got.the-variants.{Node, Stop}
 use Rattle.parser.specs.Tokens.{kindAt, checkAt, matchesAt}
 use Rattle.parser.specs.Tables.{Reply, reply, moved, looped, plain, pushNode, pushError, ifSeen, andThen, consumeAt, requireAt}
-use Rattle.parser.specs.Programs.{Reader, Which, Prog, give, stop, _>>=_, _>>_, look, check, atEnd, previous, node, link, fail, failAt, consume, require, enterLoop, leaveLoop, insideLoop, inFunction, down, raised, either, restored, run}
+use Rattle.parser.specs.Programs.{Reader, Which, Prog, give, stop, _>>=_, _>>_, look, check, atEnd, previous, node, link, fail, failAt, consume, require, enterLoop, leaveLoop, giveBack, insideLoop, inFunction, down, raised, either, restored, run}
 use Rattle.parser.proofs.Push.{push-nodes, push-errors}
 use Rattle.parsing.specs.Calls.{Name, called, lambda, Call, nameOf, sameName, withLoops, Named, named, unequal, NamedReader, thenNamed, ifNamed, eitherNamed, leave, runNamed, lowerNamed}
 use Rattle.parser.specs.Grammar.{body, lower}
@@ -119,6 +120,7 @@ module _ (T : List ℕ) (a : Which → NamedReader) (low : Which → Reader) (h 
   run-agrees (require kind message) c cs p E N = agree-require c cs p T kind message E N
   run-agrees enterLoop c cs p E N = nodes p (plain 0) E N (raised (c .loops))
   run-agrees leaveLoop c cs p E N = nodes p (plain 0) E N (c .loops - 1)
+  run-agrees giveBack c cs p E N = nodes p (plain 0) E N (loopsBehind (p .rule) (c .loops))
   run-agrees (insideLoop found missing) c cs p E N = agree-either (c ∷ cs) (eqb (c .loops) 0) _ _ _ _ (run-agrees missing c cs p E N) (run-agrees found c cs p E N)
   run-agrees (inFunction token m) c cs p E N =
       agree-leave (nameOf token (suc (length cs))) c cs p (run-agrees m (record { function = nameOf token (suc (length cs)); loops = 0 }) (c ∷ cs) p E N)

@@ -24,7 +24,7 @@ use Rattle.parser.specs.declared.Seen.{Seen}
 use Rattle.parser.specs.declared.Seen.the-variants.{At, Nothing}
 use Rattle.parser.specs.Tokens.{count, kindAt, checkAt, matchesAt}
 use Rattle.parser.specs.Tables.{Reply, reply, moved, looped, freshState, errorAt, pushNode, pushError, ifSeen, andThen, consumeAt, requireAt}
-use Rattle.parser.specs.Programs.{Reader, Which, Declaration, Prog, give, stop, _>>=_, _>>_, look, check, atEnd, previous, node, link, fail, failAt, consume, require, enterLoop, leaveLoop, insideLoop, inFunction, down, either, restored, run}
+use Rattle.parser.specs.Programs.{Reader, Which, Declaration, Prog, give, stop, _>>=_, _>>_, look, check, atEnd, previous, node, link, fail, failAt, consume, require, enterLoop, leaveLoop, giveBack, insideLoop, inFunction, down, either, restored, run}
 use Rattle.parser.specs.Grammar.{firstOf, body, lower}
 use Rattle.parser.specs.Whole.{Parsed, ends, topLevel, orEnds, ifEnd, statements, parsed}
 use Rattle.parser.proofs.Push.{push-node, push-error}
@@ -213,6 +213,7 @@ module _ (T : List ℕ) (low : Which → Reader) (h : (w : Which) → Frames (lo
   run-frames (require kind message) p E N = grown-require T kind message p E N
   run-frames enterLoop p E N = grown-none p _ _ E N refl refl
   run-frames leaveLoop p E N = grown-none p _ _ E N refl refl
+  run-frames giveBack p E N = grown-none p _ _ E N refl refl
   run-frames (insideLoop found missing) p E N = grown-either _ _ _ _ (eqb (p .loops) 0) _ _ (run-frames missing p E N) (run-frames found p E N)
   run-frames (inFunction name m) p E N = grown-restored _ _ _ _ p _ (run-frames m (looped p 0) E N)
   run-frames (down w) p E N = h w p E N
@@ -302,23 +303,23 @@ statements-end (suc f) T first last p E N =
     ended-on (q .errors) (q .nodes) (q .errors) (q .nodes) F F M (linked M last n) _ (errors-none (q .errors) F) (nodes-linked (q .nodes) M last n)
     (statements-end f T (firstOf first n) n q F (linked M last n)))
 
--- for any tokens, tables and number of errors before
-module _ (T : List ℕ) (errors : ℕ) (E N : List ℕ) where
-  pub parsed-frame : Ended errors E 0 N (parsed T errors E N)
+-- by any rule, for any tokens, tables and number of errors before
+module _ (rule : ℕ) (T : List ℕ) (errors : ℕ) (E N : List ℕ) where
+  pub parsed-frame : Ended errors E 0 N (parsed rule T errors E N)
   unfolding parsed
-  parsed-frame = statements-end (suc (count T)) T 0 0 (freshState errors) E N
+  parsed-frame = statements-end (suc (count T)) T 0 0 (freshState rule errors) E N
 
   -- the errors from before are kept, none is taken away, and behind the last one the table is as it was
-  pub parsed-errors-kept : ErrorsGrow errors E (parsed T errors E N .errorCount) (parsed T errors E N .errors)
+  pub parsed-errors-kept : ErrorsGrow errors E (parsed rule T errors E N .errorCount) (parsed rule T errors E N .errors)
   parsed-errors-kept = parsed-frame .errors
 
   -- every word of the node table past the kept nodes is 0
-  pub parsed-nodes-zero : (i : ℕ) → nodeWidth * parsed T errors E N .nodeCount ≤ i → getD (parsed T errors E N .nodes) i 0 ≡ 0
+  pub parsed-nodes-zero : (i : ℕ) → nodeWidth * parsed rule T errors E N .nodeCount ≤ i → getD (parsed rule T errors E N .nodes) i 0 ≡ 0
   parsed-nodes-zero = parsed-frame .nodes .zero-rest
 
   -- the node table is as long as it was, and has room for the nodes
-  pub parsed-nodes-long : length (parsed T errors E N .nodes) ≡ length N
+  pub parsed-nodes-long : length (parsed rule T errors E N .nodes) ≡ length N
   parsed-nodes-long = parsed-frame .nodes .long
 
-  pub parsed-nodes-within : parsed T errors E N .nodeCount ≤ room nodeWidth N
-  parsed-nodes-within = subst (λ (m : ℕ). parsed T errors E N .nodeCount ≤ m) (room-length nodeWidth (parsed T errors E N .nodes) N parsed-nodes-long) (parsed-frame .nodes .within (omega arith))
+  pub parsed-nodes-within : parsed rule T errors E N .nodeCount ≤ room nodeWidth N
+  parsed-nodes-within = subst (λ (m : ℕ). parsed rule T errors E N .nodeCount ≤ m) (room-length nodeWidth (parsed rule T errors E N .nodes) N parsed-nodes-long) (parsed-frame .nodes .within (omega arith))

@@ -1,4 +1,5 @@
 pub mod Frame
+pub mod Rule
 pub mod Sizes
 pub mod Same
 pub mod Ahead

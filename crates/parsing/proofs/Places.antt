@@ -20,7 +20,7 @@ use Rattle.parser.specs.declared.Got.the-variants.{Node, Stop}
 use Rattle.parser.specs.declared.Seen.{Seen}
 use Rattle.parser.specs.Tokens.{count, kindAt}
 use Rattle.parser.specs.Tables.{Reply, reply, moved, looped, freshState, errorAt, pushNode, pushError, ifSeen, andThen, consumeAt, requireAt}
-use Rattle.parser.specs.Programs.{Reader, Which, Declaration, Prog, give, stop, _>>=_, _>>_, look, check, atEnd, previous, node, link, fail, failAt, consume, require, enterLoop, leaveLoop, insideLoop, inFunction, down, either, restored, run}
+use Rattle.parser.specs.Programs.{Reader, Which, Declaration, Prog, give, stop, _>>=_, _>>_, look, check, atEnd, previous, node, link, fail, failAt, consume, require, enterLoop, leaveLoop, giveBack, insideLoop, inFunction, down, either, restored, run}
 use Rattle.parser.specs.Grammar.{firstOf, body, lower}
 use Rattle.parser.specs.Whole.{Parsed, topLevel, orEnds, ifEnd, statements, parsed}
 use Rattle.parser.proofs.Push.{push-node, push-error}
@@ -143,6 +143,7 @@ module _ (T : List ℕ) (e a : ℕ) (end : kindAt T e ≡ EOF) where
     run-fine (require kind message) k p E N l x = fine-require kind message k p E N l x
     run-fine enterLoop k p E N l x = record { at = l; errors = x }
     run-fine leaveLoop k p E N l x = record { at = l; errors = x }
+    run-fine giveBack k p E N l x = record { at = l; errors = x }
     run-fine (insideLoop found missing) k p E N l x = fine-either (eqb (p .loops) 0) _ _ (run-fine missing (k .1) p E N l x) (run-fine found (k .0) p E N l x)
     run-fine (inFunction name m) k p E N l x = fine-restored p _ (run-fine m k (looped p 0) E N l x)
     run-fine (down w) k p E N l x = down-fine w p E N l x
@@ -173,6 +174,6 @@ module _ (T : List ℕ) (e a : ℕ) (end : kindAt T e ≡ EOF) where
       (placed-or first (p .nodes) _ _ (top-fine p E N l x) λ m q E N h y. statements-placed n (firstOf first m) m q E (linked N last m) h y)
 
 -- every error that a parsing adds to those of before is about one of the tokens up to an EOF
-pub parsed-about : (T : List ℕ) (e : ℕ) → kindAt T e ≡ EOF → (errors : ℕ) (E N : List ℕ) (k : ℕ) → errors ≤ k → k < parsed T errors E N .errorCount → About T e (parsed T errors E N .errors) k
+pub parsed-about : (rule : ℕ) (T : List ℕ) (e : ℕ) → kindAt T e ≡ EOF → (errors : ℕ) (E N : List ℕ) (k : ℕ) → errors ≤ k → k < parsed rule T errors E N .errorCount → About T e (parsed rule T errors E N .errors) k
 unfolding parsed
-parsed-about T e end errors E N = statements-placed T e errors end (suc (count T)) 0 0 (freshState errors) E N (omega arith) λ k f b. absurd (omega (arith, f, b))
+parsed-about rule T e end errors E N = statements-placed T e errors end (suc (count T)) 0 0 (freshState rule errors) E N (omega arith) λ k f b. absurd (omega (arith, f, b))

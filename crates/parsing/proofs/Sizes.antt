@@ -22,7 +22,7 @@ use Rattle.parser.specs.declared.Seen.{Seen}
 use Rattle.parser.specs.declared.Seen.the-variants.{At, Nothing}
 use Rattle.parser.specs.Tokens.{count, kindAt, checkAt, matchesAt}
 use Rattle.parser.specs.Tables.{Reply, reply, moved, looped, freshState, errorAt, pushNode, pushError, ifSeen, andThen, consumeAt, requireAt}
-use Rattle.parser.specs.Programs.{Reader, Which, Declaration, Prog, give, stop, _>>=_, _>>_, look, check, atEnd, previous, node, link, fail, failAt, consume, require, enterLoop, leaveLoop, insideLoop, inFunction, down, either, restored, run}
+use Rattle.parser.specs.Programs.{Reader, Which, Declaration, Prog, give, stop, _>>=_, _>>_, look, check, atEnd, previous, node, link, fail, failAt, consume, require, enterLoop, leaveLoop, giveBack, insideLoop, inFunction, down, either, restored, run}
 use Rattle.parser.specs.Grammar.{firstOf, body, lower}
 use Rattle.parser.specs.Whole.{Parsed, ends, topLevel, orEnds, ifEnd, statements, parsed}
 use Rattle.parser.proofs.Push.{push-nodes, push-errors}
@@ -136,6 +136,7 @@ module _ (T : List ℕ) (low : Which → Reader) (h : (w : Which) → Sized (low
   run-sized (require kind message) p E N E′ N′ a = require-same T kind message p E N E′ N′ a
   run-sized enterLoop p E N E′ N′ a = same _ _ E N E′ N′ a
   run-sized leaveLoop p E N E′ N′ a = same _ _ E N E′ N′ a
+  run-sized giveBack p E N E′ N′ a = same _ _ E N E′ N′ a
   run-sized (insideLoop found missing) p E N E′ N′ a = same-either (eqb (p .loops) 0) _ _ _ _ (run-sized missing p E N E′ N′ a) (run-sized found p E N E′ N′ a)
   run-sized (inFunction name m) p E N E′ N′ a = same-restored p (run-sized m (looped p 0) E N E′ N′ a)
   run-sized (down w) p E N E′ N′ a = h w p E N E′ N′ a
@@ -195,11 +196,11 @@ statements-sized (suc f) T first last p E N E′ N′ a =
     statements-sized f T (firstOf first n) n q F (linked M last n) F′ (linked M′ last n) (linked-same (q .errors) (q .nodes) F M F′ M′ last n b))
 
 -- a parsing depends on the lengths of the tables and on the first `errors` errors only
-pub parsed-sizes : (T : List ℕ) (errors : ℕ) (E N E′ N′ : List ℕ) → length E ≡ length E′ → length N ≡ length N′ → take (errorWidth * errors) E ≡ take (errorWidth * errors) E′
-    → SameParsed (parsed T errors E N) (parsed T errors E′ N′)
+pub parsed-sizes : (rule : ℕ) (T : List ℕ) (errors : ℕ) (E N E′ N′ : List ℕ) → length E ≡ length E′ → length N ≡ length N′ → take (errorWidth * errors) E ≡ take (errorWidth * errors) E′
+    → SameParsed (parsed rule T errors E N) (parsed rule T errors E′ N′)
 unfolding parsed
-parsed-sizes T errors E N E′ N′ l m e =
-    statements-sized (suc (count T)) T 0 0 (freshState errors) E N E′ N′
+parsed-sizes rule T errors E N E′ N′ l m e =
+    statements-sized (suc (count T)) T 0 0 (freshState rule errors) E N E′ N′
     (record { errors-long = l; nodes-long = m; errors-same = e; nodes-same = refl })
 
 -- ---- what the node table held before does not matter at all
@@ -212,14 +213,14 @@ parsed-ext a b h e =
     ∙ ap (λ (x : List ℕ). record { outcome = b .outcome; errorCount = b .errorCount; nodeCount = b .nodeCount; first = b .first; errors = x; nodes = a .nodes }) e
     ∙ ap (λ (x : List ℕ). record { outcome = b .outcome; errorCount = b .errorCount; nodeCount = b .nodeCount; first = b .first; errors = b .errors; nodes = x }) (h .nodes)
 
-pub parsed-nodes-any : (T : List ℕ) (errors : ℕ) (E N N′ : List ℕ) → length N ≡ length N′ → parsed T errors E N ≡ parsed T errors E N′
-parsed-nodes-any T errors E N N′ l =
-    let a = parsed T errors E N in
-    let b = parsed T errors E N′ in
-    let h : SameParsed a b = parsed-sizes T errors E N E N′ refl l refl in
+pub parsed-nodes-any : (rule : ℕ) (T : List ℕ) (errors : ℕ) (E N N′ : List ℕ) → length N ≡ length N′ → parsed rule T errors E N ≡ parsed rule T errors E N′
+parsed-nodes-any rule T errors E N N′ l =
+    let a = parsed rule T errors E N in
+    let b = parsed rule T errors E N′ in
+    let h : SameParsed a b = parsed-sizes rule T errors E N E N′ refl l refl in
     let w = errorWidth * a .errorCount in
-    let d : drop w (b .errors) ≡ drop w E = rw (h .errorCount) (parsed-errors-kept T errors E N′ .rest) in
-    let s : drop w (a .errors) ≡ drop w E = parsed-errors-kept T errors E N .rest in
+    let d : drop w (b .errors) ≡ drop w E = rw (h .errorCount) (parsed-errors-kept rule T errors E N′ .rest) in
+    let s : drop w (a .errors) ≡ drop w E = parsed-errors-kept rule T errors E N .rest in
     parsed-ext a b h
     (sym (take-append-drop w (a .errors))
     ∙ ap (λ (x : List ℕ). x ++ drop w (a .errors)) (h .errors-same)

@@ -6,6 +6,7 @@ use mathlib.Core.List.{List, [], _∷_}
 use lib.Dec.{eqb}
 use lib.ListN.{length}
 use Rattle.token.specs.Kind.{EOF}
+use Rattle.rules.specs.Rules.{loopsBehind}
 use Rattle.records.specs.Outcomes.{tooDeep}
 use Rattle.records.specs.Table.{linked}
 use Rattle.parser.specs.declared.State.{State}
@@ -15,7 +16,7 @@ use Rattle.parser.specs.declared.Seen.the-variants.{At, Nothing}
 use Rattle.parser.specs.declared.Got.the-variants.{Node, Stop}
 use Rattle.parser.specs.Tokens.{kindAt, checkAt, matchesAt}
 use Rattle.parser.specs.Tables.{Reply, reply, moved, plain, pushNode, pushError, consumeAt, requireAt}
-use Rattle.parser.specs.Programs.{Which, Prog, give, stop, _>>=_, _>>_, look, check, atEnd, previous, node, link, fail, failAt, consume, require, enterLoop, leaveLoop, insideLoop, inFunction, down, raised}
+use Rattle.parser.specs.Programs.{Which, Prog, give, stop, _>>=_, _>>_, look, check, atEnd, previous, node, link, fail, failAt, consume, require, enterLoop, leaveLoop, giveBack, insideLoop, inFunction, down, raised}
 use Rattle.parser.specs.Grammar.{body}
 
 -- a function's name: the token of a named one, or `lambda` and the number of functions that are open around it
@@ -104,6 +105,7 @@ runNamed T low (consume kind message) p cs E N = named (consumeAt T kind message
 runNamed T low (require kind message) p cs E N = named (requireAt T kind message p E N) cs
 runNamed T low enterLoop p cs E N = named (reply p (Node (plain 0)) E N) (withLoops cs (raised (loopsOf cs)))
 runNamed T low leaveLoop p cs E N = named (reply p (Node (plain 0)) E N) (withLoops cs (loopsOf cs - 1))
+runNamed T low giveBack p cs E N = named (reply p (Node (plain 0)) E N) (withLoops cs (loopsBehind (p .rule) (loopsOf cs)))
 runNamed T low (insideLoop found missing) p cs E N = eitherNamed (eqb (loopsOf cs) 0) (λ _. runNamed T low missing p cs E N) λ _. runNamed T low found p cs E N
 runNamed T low (inFunction token m) p cs E N =
     leave (nameOf token (length cs)) (runNamed T low m p (record { function = nameOf token (length cs); loops = 0 } ∷ cs) E N)

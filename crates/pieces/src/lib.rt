@@ -2,7 +2,8 @@
 ghost use mathlib.Core.Path.{_≡_};
 ghost use mathlib.Core.List.{List};
 ghost use Prim.Native.Nat.{ℕ, _-_};
-ghost use Rattle.parser.specs.Tables.{reply, andThen, pushNode, pushError};
+ghost use Rattle.rules.specs.Rules.{loopsBehind};
+ghost use Rattle.parser.specs.Tables.{reply, looped, andThen, pushNode, pushError};
 ghost use Rattle.parser.specs.Nodes as rows;
 ghost use Rattle.parser.specs.Programs.{Which, Reader, run};
 ghost use Rattle.parser.specs.Grammar as specs;
@@ -265,9 +266,9 @@ pub fn if_node(
     )
 }
 
-// The node of an enhanced for, behind its body: the loop count is not given back.
+// The node of an enhanced for, behind its body; the loop count is given back where the rule says so.
 pub fn for_node(nodes: &mut [u32], body: Out, keyword: u32, ids: u32, collection: u32) -> Out
-    ensures { λ r. ⌜ ((E : List ℕ) → reply (r .p) (r .got) E (now (nodes .exit)) ≡ andThen (reply (body .p) (body .got) E (now (nodes .entry))) λ stmt q E N. pushNode (rows.enhancedForRow keyword ids collection (stmt .node)) q E N) ⌝ }
+    ensures { λ r. ⌜ ((E : List ℕ) → reply (r .p) (r .got) E (now (nodes .exit)) ≡ andThen (reply (body .p) (body .got) E (now (nodes .entry))) λ stmt q E N. pushNode (rows.enhancedForRow keyword ids collection (stmt .node)) (looped q (loopsBehind (q .rule) (q .loops))) E N) ⌝ }
 {
     let k = body.got;
     let Got::Node(stmt) = k else {
@@ -276,7 +277,7 @@ pub fn for_node(nodes: &mut [u32], body: Out, keyword: u32, ids: u32, collection
     let after = body.p;
     parser::make(
         nodes,
-        after,
+        after.give_back(),
         row(
             Node::ENHANCED_FOR,
             keyword,

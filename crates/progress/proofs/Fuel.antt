@@ -17,7 +17,7 @@ use Rattle.parser.specs.declared.Seen.{Seen}
 use Rattle.parser.specs.declared.Seen.the-variants.{At, Nothing}
 use Rattle.parser.specs.Tokens.{count, kindAt, checkAt, matchesAt}
 use Rattle.parser.specs.Tables.{Reply, reply, moved, looped, freshState, pushNode, pushError, ifSeen, andThen, consumeAt, requireAt}
-use Rattle.parser.specs.Programs.{Reader, Which, Declaration, Assignment, Operand, Prog, give, stop, _>>=_, _>>_, look, check, atEnd, previous, node, link, fail, failAt, consume, require, enterLoop, leaveLoop, insideLoop, inFunction, down, either, restored, run}
+use Rattle.parser.specs.Programs.{Reader, Which, Declaration, Assignment, Operand, Prog, give, stop, _>>=_, _>>_, look, check, atEnd, previous, node, link, fail, failAt, consume, require, enterLoop, leaveLoop, giveBack, insideLoop, inFunction, down, either, restored, run}
 use Rattle.parser.specs.Grammar.{firstOf, property, when, assigned, Level, levels, fuel, blockFrom, block, expressionStmt, parametersFrom, parameters, functionBody, fnStmt, fnExpr, methodsFrom, class, letStmt, namesFrom, enhancedFor, classicFor, forLoop, tryCatch, elifsFrom, elseFrom, ifStmt, ret, brk, cont, whileStmt, statement, declaration, argumentsFrom, arguments, list, dictElementsFrom, dictionary, closed, access, superExpr, primary, finishCall, callFrom, call, unary, lookMany, binaryFrom, binary, assignment, body, lower}
 use Rattle.parser.specs.Whole.{Parsed, topLevel, orEnds, ifEnd, statements, parsed}
 use Rattle.parser.proofs.Push.{push-node, push-error}
@@ -43,6 +43,7 @@ Fed b (consume kind message) = Unit {0}
 Fed b (require kind message) = Unit {0}
 Fed b enterLoop = Unit {0}
 Fed b leaveLoop = Unit {0}
+Fed b giveBack = Unit {0}
 Fed b (insideLoop found missing) = Fed b found × Fed b missing
 Fed b (inFunction name m) = Fed b m
 Fed b (down w) = Unit {0}
@@ -121,7 +122,7 @@ module _ (T : List ℕ) where
 
   enhanced-fed : (keyword b : ℕ) → b ≤ count T → Fed b (enhancedFor T keyword)
   unfolding enhancedFor
-  enhanced-fed keyword b h = (names-from-fed (fuel T) 0 0 b (omega arith), λ c ids c≤ c<. (tt, λ d d≤. (tt, λ e v e≤ e<. (tt, λ g s g≤ g<. tt))))
+  enhanced-fed keyword b h = (names-from-fed (fuel T) 0 0 b (omega arith), λ c ids c≤ c<. (tt, λ d d≤. (tt, λ e v e≤ e<. (tt, λ g s g≤ g<. (tt, λ k k≤. tt)))))
 
   classic-fed : (keyword b : ℕ) → Fed b (classicFor T keyword)
   unfolding classicFor
@@ -432,6 +433,7 @@ module _ (T : List ℕ) (low : Which → Reader) (h : (w : Which) → MovesOn T 
   run-fed (require kind message) b p E N d l = left-require T kind message p E N
   run-fed enterLoop b p E N d l = record { left = tt }
   run-fed leaveLoop b p E N d l = record { left = tt }
+  run-fed giveBack b p E N d l = record { left = tt }
   run-fed (insideLoop found missing) b p E N d l = left-either (eqb (p .loops) 0) _ _ (run-fed missing b p E N (d .1) l) (run-fed found b p E N (d .0) l)
   run-fed (inFunction name m) b p E N d l = left-restored p _ (run-fed m b (looped p 0) E N d l)
   run-fed (down w) b p E N d l = g w p E N
@@ -472,6 +474,6 @@ statements-fed zero T first last p E N l = absurd (omega arith)
 statements-fed (suc n) T first last p E N l = ended-if (eqb (kindAt T (p .current)) 0) _ _ (record { below = omega arith }) (ended-or _ _ _ first (p .nodes) _ _ (top-fed T p E N) (top-moves T p E N) λ m q E N a c. statements-fed n T (firstOf first m) m q E (linked N last m) (omega arith))
 
 -- no parsing ends with outcome 99
-pub parsed-never-spent : (T : List ℕ) (e : ℕ) (E N : List ℕ) → parsed T e E N .outcome ≡ 99 → ⊥
+pub parsed-never-spent : (rule : ℕ) (T : List ℕ) (e : ℕ) (E N : List ℕ) → parsed rule T e E N .outcome ≡ 99 → ⊥
 unfolding parsed
-parsed-never-spent T e E N s = let h = statements-fed (suc (count T)) T 0 0 (freshState e) E N (omega arith) .below in omega arith
+parsed-never-spent rule T e E N s = let h = statements-fed (suc (count T)) T 0 0 (freshState rule e) E N (omega arith) .below in omega arith

@@ -14,7 +14,7 @@ use Rattle.parser.specs.declared.Seen.{Seen}
 use Rattle.parser.specs.declared.Seen.the-variants.{At, Nothing}
 use Rattle.parser.specs.Tokens.{count, kindAt, matchesAt}
 use Rattle.parser.specs.Tables.{Reply, reply, moved, looped, pushNode, pushError, ifSeen, andThen, consumeAt, requireAt}
-use Rattle.parser.specs.Programs.{Reader, Which, Declaration, Assignment, Operand, Prog, give, stop, _>>=_, _>>_, look, check, atEnd, previous, node, link, fail, failAt, consume, require, enterLoop, leaveLoop, insideLoop, inFunction, down, either, restored, run}
+use Rattle.parser.specs.Programs.{Reader, Which, Declaration, Assignment, Operand, Prog, give, stop, _>>=_, _>>_, look, check, atEnd, previous, node, link, fail, failAt, consume, require, enterLoop, leaveLoop, giveBack, insideLoop, inFunction, down, either, restored, run}
 use Rattle.parser.specs.Grammar.{expressionStmt, statement, declaration, primary, call, unary, binary, assignment, body, lower, Level}
 use Rattle.parser.proofs.Push.{push-node, push-error}
 use Rattle.progress.proofs.Leaf.{check-at, matches-on, matches-at}
@@ -87,6 +87,7 @@ moves (require zero message) = false
 moves (require (suc kind) message) = true
 moves enterLoop = false
 moves leaveLoop = false
+moves giveBack = false
 moves (insideLoop found missing) = moves found && moves missing
 moves (inFunction name m) = moves m
 moves (down w) = true
@@ -118,6 +119,7 @@ module _ (T : List ℕ) (low : Which → Reader) (h : (w : Which) → MovesOn T 
   stays (require kind message) z a c p E N y b x = past-require z a c T kind message p E N y λ i e. let g = matches-on T (p .current) kind i e in (omega arith, x)
   stays enterLoop z a c p E N y b x = record { past = (b, x) }
   stays leaveLoop z a c p E N y b x = record { past = (b, x) }
+  stays giveBack z a c p E N y b x = record { past = (b, x) }
   stays (insideLoop found missing) z a c p E N y b x = past-either _ _ _ (eqb (p .loops) 0) _ _ (stays missing z a c p E N y b x) (stays found z a c p E N y b x)
   stays (inFunction name m) z a c p E N y b x = past-restored z a c p _ (stays m z a c (looped p 0) E N y b x)
   stays (down w) z a c p E N y b x = past-less _ _ _ _ _ _ _ (h w p E N) y (omega arith) λ d. x
@@ -147,6 +149,7 @@ module _ (T : List ℕ) (low : Which → Reader) (h : (w : Which) → MovesOn T 
   moves-on (require (suc kind) message) e p E N = past-require _ _ _ T (suc kind) message p E N (omega arith) λ i s. matches-at T (p .current) kind i s
   moves-on enterLoop e p E N = never e
   moves-on leaveLoop e p E N = never e
+  moves-on giveBack e p E N = never e
   moves-on (insideLoop found missing) e p E N = past-either _ _ _ (eqb (p .loops) 0) _ _ (moves-on missing (both (moves found) (moves missing) e .1) p E N) (moves-on found (both (moves found) (moves missing) e .0) p E N)
   moves-on (inFunction name m) e p E N = past-restored _ _ _ p _ (moves-on m e (looped p 0) E N)
   moves-on (down w) e p E N = h w p E N

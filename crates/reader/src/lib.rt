@@ -9,20 +9,21 @@ use entry::Answer;
 use lexer::Scanned;
 use records::Outcome;
 
-// Reads a source into the three tables, on the way that is asked for. Where it is not parsed no node is kept.
+// Reads a source into the three tables, by the rule and on the way that are asked for. Where it is not parsed no node is kept.
 pub fn read(
+    rule: u32,
     way: u32,
     source: &[u8],
     tokens: &mut [u32],
     errors: &mut [u32],
     nodes: &mut [u32],
 ) -> Answer
-    ensures { λ r. ⌜ Answers (reading way (now (source .entry)) (now (tokens .entry)) (now (errors .entry)) (now (nodes .entry)))
+    ensures { λ r. ⌜ Answers (reading rule way (now (source .entry)) (now (tokens .entry)) (now (errors .entry)) (now (nodes .entry)))
         r (now (tokens .exit)) (now (errors .exit)) (now (nodes .exit)) ⌝ }
 {
-    let d = entry::enter(way, source, tokens, errors, nodes);
+    let d = entry::enter(rule, way, source, tokens, errors, nodes);
     if d.outcome == Outcome::ENDED {
-        let p = statements::parse(tokens, errors, nodes, d.errors);
+        let p = statements::parse(rule, tokens, errors, nodes, d.errors);
         return Answer {
             outcome: p.outcome,
             tokens: d.tokens,
@@ -43,25 +44,31 @@ pub fn read(
 // The same for Rust and C.
 #[no_mangle]
 pub extern "C" fn kettleplume_read(
+    rule: u32,
     way: u32,
     source: &[u8],
     tokens: &mut [u32],
     errors: &mut [u32],
     nodes: &mut [u32],
 ) -> Answer
-    ensures { λ r. ⌜ Answers (reading way (now (source .entry)) (now (tokens .entry)) (now (errors .entry)) (now (nodes .entry)))
+    ensures { λ r. ⌜ Answers (reading rule way (now (source .entry)) (now (tokens .entry)) (now (errors .entry)) (now (nodes .entry)))
         r (now (tokens .exit)) (now (errors .exit)) (now (nodes .exit)) ⌝ }
 {
-    read(way, source, tokens, errors, nodes)
+    read(rule, way, source, tokens, errors, nodes)
 }
 
-// Lexes a source into a token table and an error table.
+// Lexes a source by a rule into a token table and an error table.
 #[no_mangle]
-pub extern "C" fn kettleplume_scan(source: &[u8], tokens: &mut [u32], errors: &mut [u32]) -> Scanned
-    ensures { λ r. ⌜ Lexing (lexedOf (now (source .entry)) (room tokenWidth (now (tokens .entry))) (room errorWidth (now (errors .entry))))
+pub extern "C" fn kettleplume_scan(
+    rule: u32,
+    source: &[u8],
+    tokens: &mut [u32],
+    errors: &mut [u32],
+) -> Scanned
+    ensures { λ r. ⌜ Lexing (lexedOf rule (now (source .entry)) (room tokenWidth (now (tokens .entry))) (room errorWidth (now (errors .entry))))
         r (now (tokens .entry)) (now (tokens .exit)) (now (errors .entry)) (now (errors .exit)) ⌝ }
 {
-    lexer::scan(source, tokens, errors)
+    lexer::scan(rule, source, tokens, errors)
 }
 
 // Decodes the string whose opening quote stands at start.

@@ -49,6 +49,10 @@ noBufferRoom = 10
 abbrev pub notParsed : ℕ
 notParsed = 11
 
+-- the rule is neither one nor two, and nothing changed
+abbrev pub wrongRule : ℕ
+wrongRule = 13
+
 -- the pair: what the parser holds doesn't fit what is lent, and nothing changed
 abbrev pub doesNotFit : ℕ
 doesNotFit = 18

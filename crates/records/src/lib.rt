@@ -147,6 +147,9 @@ impl Outcome {
     // The new way: lexing recorded an error, so nothing is parsed.
     pub const NOT_PARSED: u32 = 11;
 
+    // The number names no rule; nothing changed.
+    pub const WRONG_RULE: u32 = 13;
+
     // The pair: what the parser holds doesn't fit what is lent.
     pub const DOES_NOT_FIT: u32 = 18;
 

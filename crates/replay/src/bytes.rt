@@ -4,6 +4,7 @@ use crate::fields::Field;
 use crate::print;
 use literal::Literal;
 use literal::Span;
+use rules::Rule;
 use strings::Ended;
 use token::Token;
 ghost use mathlib.Core.Path.{_≡_};
@@ -111,13 +112,14 @@ fn value_words(m: u64, k: usize) {
     print::word(w.high);
 }
 
-// e HEX i: where the name, the digits and the comment from i on end.
+// e HEX i: where the name of rule one, that of rule two, the digits and the comment from i on end.
 fn ends(s: &[u8], f: Field, b: &[u8]) {
     let i = fields::number(s, f);
     if fields::whole(s, i) {
         let at = i.value as usize;
         print::letter(b'e');
-        print::size(spans::name_end(b, at));
+        print::size(rules::name_end(Rule::ONE, b, at));
+        print::size(rules::name_end(Rule::TWO, b, at));
         print::size(spans::digits_end(b, at));
         print::size(spans::comment_end(b, at));
         print::end();

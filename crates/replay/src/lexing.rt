@@ -3,7 +3,7 @@ use crate::fields;
 use crate::fields::Field;
 use crate::print;
 
-// c HEX tokens errors: the bytes lexed into a token table and an error table of so many words. A source has at most 4,096 bytes.
+// c HEX rule tokens errors: the bytes lexed by a rule into a token table and an error table of so many words. A source has at most 4,096 bytes.
 pub(crate) fn vector(s: &[u8]) {
     let mut b = [0u8; 4096];
     decoded(s, &mut b);
@@ -26,12 +26,14 @@ const BEFORE: u32 = 7;
 const MOST_WORDS: usize = 8192;
 
 fn on_source(s: &[u8], f: Field, source: &[u8]) {
-    let t = fields::number(s, f);
+    let r = fields::number(s, f);
+    let t = fields::number(s, r);
     let e = fields::number(s, t);
     if fields::whole(s, e) {
         let mut tokens = [BEFORE; MOST_WORDS];
         let mut errors = [BEFORE; MOST_WORDS];
         with_tables(
+            (r.value % 4294967296) as u32,
             source,
             &mut tokens,
             t.value as usize,
@@ -43,10 +45,17 @@ fn on_source(s: &[u8], f: Field, source: &[u8]) {
     }
 }
 
-fn with_tables(source: &[u8], tokens: &mut [u32], t: usize, errors: &mut [u32], e: usize) {
+fn with_tables(
+    rule: u32,
+    source: &[u8],
+    tokens: &mut [u32],
+    t: usize,
+    errors: &mut [u32],
+    e: usize,
+) {
     if t <= tokens.len() {
         if e <= errors.len() {
-            scan(source, &mut tokens[0..t], &mut errors[0..e]);
+            scan(rule, source, &mut tokens[0..t], &mut errors[0..e]);
             return;
         }
     }
@@ -54,8 +63,8 @@ fn with_tables(source: &[u8], tokens: &mut [u32], t: usize, errors: &mut [u32], 
 }
 
 // The answer, the kept tokens, the kept errors, and how many words behind them have changed.
-fn scan(source: &[u8], tokens: &mut [u32], errors: &mut [u32]) {
-    let r = lexer::scan(source, tokens, errors);
+fn scan(rule: u32, source: &[u8], tokens: &mut [u32], errors: &mut [u32]) {
+    let r = lexer::scan(rule, source, tokens, errors);
     head(r.outcome, r.tokens, r.errors);
     each_token(source, tokens, r.tokens);
     each_error(errors, r.errors);

@@ -16,7 +16,7 @@ fn buffer() -> [u8; 262144]
     [0; 262144]
 }
 
-// A vector has a line of five numbers with five digits each: the script's length in bytes, the way, the sizes of the token, error and node
+// A vector has a line of six numbers with five digits each: the script's length in bytes, the rule, the way, the sizes of the token, error and node
 // table in words. The script follows, and a newline.
 fn vectors(s: &[u8]) {
     let mut at = 0;
@@ -35,17 +35,18 @@ fn vector(s: &[u8], at: usize) -> usize
     ensures { λ r. ⌜ at ≤ r ⌝ }
 {
     if at < s.len() {
-        if 30 <= s.len() - at {
-            let head = at + 30;
+        if 36 <= s.len() - at {
+            let head = at + 36;
             let n = size(s, at);
             if n <= s.len() - head {
                 let end = head + n;
                 tables(
                     size(s, at + 6) as u32,
+                    size(s, at + 12) as u32,
                     &s[head..end],
-                    size(s, at + 12),
                     size(s, at + 18),
                     size(s, at + 24),
+                    size(s, at + 30),
                 );
                 return end;
             }
@@ -82,14 +83,25 @@ fn value(c: u8) -> usize
 }
 
 // A table has at most 4,096 words, each 7 before.
-fn tables(way: u32, source: &[u8], t: usize, e: usize, n: usize) {
+fn tables(rule: u32, way: u32, source: &[u8], t: usize, e: usize, n: usize) {
     let mut tokens = [7u32; 4096];
     let mut errors = [7u32; 4096];
     let mut nodes = [7u32; 4096];
-    parts(way, source, &mut tokens, t, &mut errors, e, &mut nodes, n);
+    parts(
+        rule,
+        way,
+        source,
+        &mut tokens,
+        t,
+        &mut errors,
+        e,
+        &mut nodes,
+        n,
+    );
 }
 
 fn parts(
+    rule: u32,
     way: u32,
     source: &[u8],
     tokens: &mut [u32],
@@ -103,6 +115,7 @@ fn parts(
         if e <= errors.len() {
             if n <= nodes.len() {
                 read(
+                    rule,
                     way,
                     source,
                     &mut tokens[0..t],
@@ -117,8 +130,15 @@ fn parts(
 }
 
 // The answer in its order, then every word of each table.
-fn read(way: u32, source: &[u8], tokens: &mut [u32], errors: &mut [u32], nodes: &mut [u32]) {
-    let r = reader::read(way, source, tokens, errors, nodes);
+fn read(
+    rule: u32,
+    way: u32,
+    source: &[u8],
+    tokens: &mut [u32],
+    errors: &mut [u32],
+    nodes: &mut [u32],
+) {
+    let r = reader::read(rule, way, source, tokens, errors, nodes);
     io::write_all(1, b"o");
     word(r.outcome);
     word(r.tokens);

@@ -9,9 +9,9 @@ use Rattle.records.specs.Table.{tokenWidth, errorWidth, nodeWidth}
 use Rattle.entry.specs.Reading.{Reading, reading}
 use Rattle.text.proofs.Codes.{codes}
 
--- a way, a script, the rooms for tokens, errors and nodes, and the words that are kept
+-- a rule, a way, a script, the rooms for tokens, errors and nodes, and the words that are kept
 pub data Case : Type 0 where
-  case : ℕ → String → ℕ → ℕ → ℕ → List ℕ → Case
+  case : ℕ → ℕ → String → ℕ → ℕ → ℕ → List ℕ → Case
 
 -- the words that are not w
 abbrev pub others : ℕ → List ℕ → List ℕ
@@ -33,11 +33,11 @@ table w n = replicate (w * (n + 1) - 1) 7
 
 -- what the definition keeps, from such tables
 abbrev pub answer : Case → List ℕ
-answer (case way s t e n ws) = kept (reading way (codes s) (table tokenWidth t) (table errorWidth e) (table nodeWidth n))
+answer (case rule way s t e n ws) = kept (reading rule way (codes s) (table tokenWidth t) (table errorWidth e) (table nodeWidth n))
 
 -- what the original keeps
 abbrev pub expected : Case → List ℕ
-expected (case way s t e n ws) = ws
+expected (case rule way s t e n ws) = ws
 
 abbrev pub map : (Case → List ℕ) → List Case → List (List ℕ)
 map f [] = []

@@ -3,6 +3,7 @@ pub mod Cases
 pub mod Limits
 pub mod Oracle
 pub mod Parameters
+pub mod Rules
 pub mod Stars
 pub mod Ways
 pub mod Worked

@@ -17,9 +17,9 @@ use Rattle.parser.specs.Whole.{topLevel, statements, parsed}
 use Rattle.entry.specs.Reading.{reading}
 use Rattle.scripts.proofs.Cases.{Case, case, map, answer, expected}
 
-abbrev cases : List Case
-cases =
-    case 1 "((((((((((((((((((((((((((((((((((((((((((((((((((((((((((((((((((((((((((((((((((((((((((((((((((((((((((((((((((((((((((((((a))))))))))))))))))))))))))))))))))))))))))))))))))))))))))))))))))))))))))))))))))))))))))))))))))))))))))))))))))))))))))))))" 255 0 128
+abbrev cases-1 : List Case
+cases-1 =
+    case 1 1 "((((((((((((((((((((((((((((((((((((((((((((((((((((((((((((((((((((((((((((((((((((((((((((((((((((((((((((((((((((((((((((((a))))))))))))))))))))))))))))))))))))))))))))))))))))))))))))))))))))))))))))))))))))))))))))))))))))))))))))))))))))))))))))))" 255 0 128
     (0 ∷ 255 ∷ 0 ∷ 128 ∷ 128 ∷
     2 ∷ 127 ∷ 0 ∷ 0 ∷ 0 ∷ 0 ∷ 0 ∷ 0 ∷ 0 ∷
     12 ∷ 0 ∷ 0 ∷ 0 ∷ 1 ∷ 0 ∷ 0 ∷ 0 ∷ 0 ∷
@@ -149,9 +149,9 @@ cases =
     12 ∷ 0 ∷ 0 ∷ 0 ∷ 125 ∷ 0 ∷ 0 ∷ 0 ∷ 0 ∷
     12 ∷ 0 ∷ 0 ∷ 0 ∷ 126 ∷ 0 ∷ 0 ∷ 0 ∷ 0 ∷
     30 ∷ 253 ∷ 0 ∷ 0 ∷ 127 ∷ 0 ∷ 0 ∷ 0 ∷ 0 ∷ []) ∷
-    case 1 "(((((((((((((((((((((((((((((((((((((((((((((((((((((((((((((((((((((((((((((((((((((((((((((((((((((((((((((((((((((((((((((((a)))))))))))))))))))))))))))))))))))))))))))))))))))))))))))))))))))))))))))))))))))))))))))))))))))))))))))))))))))))))))))))))" 257 0 257
+    case 1 1 "(((((((((((((((((((((((((((((((((((((((((((((((((((((((((((((((((((((((((((((((((((((((((((((((((((((((((((((((((((((((((((((((a)))))))))))))))))))))))))))))))))))))))))))))))))))))))))))))))))))))))))))))))))))))))))))))))))))))))))))))))))))))))))))))))" 257 0 257
     (8 ∷ 257 ∷ 0 ∷ 0 ∷ 0 ∷ []) ∷
-    case 1 "{{{{{{{{{{{{{{{{{{{{{{{{{{{{{{{{{{{{{{{{{{{{{{{{{{{{{{{{{{{{{{{{{{{{{{{{{{{{{{{{{{{{{{{{{{{{{{{{{{{{{{{{{{{{{{{{{{{{{{{{{{{{{{{{}}}}}}}}}}}}}}}}}}}}}}}}}}}}}}}}}}}}}}}}}}}}}}}}}}}}}}}}}}}}}}}}}}}}}}}}}}}}}}}}}}}}}}}}}}}}}}}}}}}}}}}}}}}}}}}}}}}}}}}}}}}}}}}}" 258 0 128
+    case 1 1 "{{{{{{{{{{{{{{{{{{{{{{{{{{{{{{{{{{{{{{{{{{{{{{{{{{{{{{{{{{{{{{{{{{{{{{{{{{{{{{{{{{{{{{{{{{{{{{{{{{{{{{{{{{{{{{{{{{{{{{{{{{{{{{{{}}}}}}}}}}}}}}}}}}}}}}}}}}}}}}}}}}}}}}}}}}}}}}}}}}}}}}}}}}}}}}}}}}}}}}}}}}}}}}}}}}}}}}}}}}}}}}}}}}}}}}}}}}}}}}}}}}}}}}}}}}}}}}}}" 258 0 128
     (0 ∷ 258 ∷ 0 ∷ 128 ∷ 128 ∷
     20 ∷ 0 ∷ 0 ∷ 0 ∷ 0 ∷ 0 ∷ 0 ∷ 0 ∷ 0 ∷
     20 ∷ 0 ∷ 0 ∷ 0 ∷ 1 ∷ 0 ∷ 0 ∷ 0 ∷ 0 ∷
@@ -281,9 +281,17 @@ cases =
     20 ∷ 0 ∷ 0 ∷ 0 ∷ 125 ∷ 0 ∷ 0 ∷ 0 ∷ 0 ∷
     20 ∷ 0 ∷ 0 ∷ 0 ∷ 126 ∷ 0 ∷ 0 ∷ 0 ∷ 0 ∷
     20 ∷ 0 ∷ 0 ∷ 0 ∷ 127 ∷ 0 ∷ 0 ∷ 0 ∷ 0 ∷ []) ∷
-    case 1 "{{{{{{{{{{{{{{{{{{{{{{{{{{{{{{{{{{{{{{{{{{{{{{{{{{{{{{{{{{{{{{{{{{{{{{{{{{{{{{{{{{{{{{{{{{{{{{{{{{{{{{{{{{{{{{{{{{{{{{{{{{{{{{{{{}}}}}}}}}}}}}}}}}}}}}}}}}}}}}}}}}}}}}}}}}}}}}}}}}}}}}}}}}}}}}}}}}}}}}}}}}}}}}}}}}}}}}}}}}}}}}}}}}}}}}}}}}}}}}}}}}}}}}}}}}}}}}}}}}" 260 0 260
+    []
+
+agree-1 : map answer cases-1 ≡ map expected cases-1
+unfolding reading lexedOf lexed isText keywordOf signOf div ofInt toBits put field linked zeroed kindAt startAt lineAt after skipFrom skipLines seenIf checkAt matchesAt pushNode pushError consumeAt requireAt run raised firstOf blockFrom block expressionStmt parametersFrom parameters functionBody fnStmt fnExpr methodsFrom class letStmt namesFrom enhancedFor classicFor forLoop tryCatch elifsFrom elseFrom ifStmt ret brk cont whileStmt statement declaration argumentsFrom arguments list dictElementsFrom dictionary closed access superExpr primary finishCall callFrom call unary lookMany binaryFrom binary assignment body lower topLevel statements parsed
+agree-1 = refl
+
+abbrev cases-2 : List Case
+cases-2 =
+    case 1 1 "{{{{{{{{{{{{{{{{{{{{{{{{{{{{{{{{{{{{{{{{{{{{{{{{{{{{{{{{{{{{{{{{{{{{{{{{{{{{{{{{{{{{{{{{{{{{{{{{{{{{{{{{{{{{{{{{{{{{{{{{{{{{{{{{{}}}}}}}}}}}}}}}}}}}}}}}}}}}}}}}}}}}}}}}}}}}}}}}}}}}}}}}}}}}}}}}}}}}}}}}}}}}}}}}}}}}}}}}}}}}}}}}}}}}}}}}}}}}}}}}}}}}}}}}}}}}}}}}}}" 260 0 260
     (8 ∷ 260 ∷ 0 ∷ 0 ∷ 0 ∷ []) ∷
-    case 1 "------------------------------------------------------------------------------------------------------------------------------a" 129 0 128
+    case 1 1 "------------------------------------------------------------------------------------------------------------------------------a" 129 0 128
     (0 ∷ 129 ∷ 0 ∷ 128 ∷ 128 ∷
     2 ∷ 127 ∷ 0 ∷ 0 ∷ 0 ∷ 0 ∷ 0 ∷ 0 ∷ 0 ∷
     16 ∷ 126 ∷ 0 ∷ 0 ∷ 1 ∷ 0 ∷ 0 ∷ 0 ∷ 0 ∷
@@ -413,9 +421,9 @@ cases =
     16 ∷ 2 ∷ 0 ∷ 0 ∷ 125 ∷ 0 ∷ 0 ∷ 0 ∷ 0 ∷
     16 ∷ 1 ∷ 0 ∷ 0 ∷ 126 ∷ 0 ∷ 0 ∷ 0 ∷ 0 ∷
     30 ∷ 127 ∷ 0 ∷ 0 ∷ 127 ∷ 0 ∷ 0 ∷ 0 ∷ 0 ∷ []) ∷
-    case 1 "-------------------------------------------------------------------------------------------------------------------------------a" 130 0 130
+    case 1 1 "-------------------------------------------------------------------------------------------------------------------------------a" 130 0 130
     (8 ∷ 130 ∷ 0 ∷ 0 ∷ 0 ∷ []) ∷
-    case 1 "a=a=a=a=a=a=a=a=a=a=a=a=a=a=a=a=a=a=a=a=a=a=a=a=a=a=a=a=a=a=a=a=a=a=a=a=a=a=a=a=a=a=a=a=a=a=a=a=a=a=a=a=a=a=a=a=a=a=a=a=a=a=a=a=a=a=a=a=a=a=a=a=a=a=a=a=a=a=a=a=a=a=a=a=a=a=a=a=a=a=a=a=a=a=a=a=a=a=a=a=a=a=a=a=a=a=a=a=a=a=a=a=a=a=a=a=a=a=a=a=a=a=a=a=a=a=1" 255 0 254
+    case 1 1 "a=a=a=a=a=a=a=a=a=a=a=a=a=a=a=a=a=a=a=a=a=a=a=a=a=a=a=a=a=a=a=a=a=a=a=a=a=a=a=a=a=a=a=a=a=a=a=a=a=a=a=a=a=a=a=a=a=a=a=a=a=a=a=a=a=a=a=a=a=a=a=a=a=a=a=a=a=a=a=a=a=a=a=a=a=a=a=a=a=a=a=a=a=a=a=a=a=a=a=a=a=a=a=a=a=a=a=a=a=a=a=a=a=a=a=a=a=a=a=a=a=a=a=a=a=a=1" 255 0 254
     (0 ∷ 255 ∷ 0 ∷ 254 ∷ 254 ∷
     2 ∷ 1 ∷ 0 ∷ 0 ∷ 0 ∷ 0 ∷ 0 ∷ 0 ∷ 0 ∷
     2 ∷ 3 ∷ 0 ∷ 0 ∷ 0 ∷ 0 ∷ 0 ∷ 0 ∷ 0 ∷
@@ -671,10 +679,18 @@ cases =
     5 ∷ 3 ∷ 0 ∷ 0 ∷ 251 ∷ 0 ∷ 0 ∷ 0 ∷ 0 ∷
     5 ∷ 1 ∷ 0 ∷ 0 ∷ 252 ∷ 0 ∷ 0 ∷ 0 ∷ 0 ∷
     30 ∷ 253 ∷ 0 ∷ 0 ∷ 253 ∷ 0 ∷ 0 ∷ 0 ∷ 0 ∷ []) ∷
-    case 1 "a=a=a=a=a=a=a=a=a=a=a=a=a=a=a=a=a=a=a=a=a=a=a=a=a=a=a=a=a=a=a=a=a=a=a=a=a=a=a=a=a=a=a=a=a=a=a=a=a=a=a=a=a=a=a=a=a=a=a=a=a=a=a=a=a=a=a=a=a=a=a=a=a=a=a=a=a=a=a=a=a=a=a=a=a=a=a=a=a=a=a=a=a=a=a=a=a=a=a=a=a=a=a=a=a=a=a=a=a=a=a=a=a=a=a=a=a=a=a=a=a=a=a=a=a=a=a=1" 257 0 257
+    []
+
+agree-2 : map answer cases-2 ≡ map expected cases-2
+unfolding reading lexedOf lexed isText keywordOf signOf div ofInt toBits put field linked zeroed kindAt startAt lineAt after skipFrom skipLines seenIf checkAt matchesAt pushNode pushError consumeAt requireAt run raised firstOf blockFrom block expressionStmt parametersFrom parameters functionBody fnStmt fnExpr methodsFrom class letStmt namesFrom enhancedFor classicFor forLoop tryCatch elifsFrom elseFrom ifStmt ret brk cont whileStmt statement declaration argumentsFrom arguments list dictElementsFrom dictionary closed access superExpr primary finishCall callFrom call unary lookMany binaryFrom binary assignment body lower topLevel statements parsed
+agree-2 = refl
+
+abbrev cases-3 : List Case
+cases-3 =
+    case 1 1 "a=a=a=a=a=a=a=a=a=a=a=a=a=a=a=a=a=a=a=a=a=a=a=a=a=a=a=a=a=a=a=a=a=a=a=a=a=a=a=a=a=a=a=a=a=a=a=a=a=a=a=a=a=a=a=a=a=a=a=a=a=a=a=a=a=a=a=a=a=a=a=a=a=a=a=a=a=a=a=a=a=a=a=a=a=a=a=a=a=a=a=a=a=a=a=a=a=a=a=a=a=a=a=a=a=a=a=a=a=a=a=a=a=a=a=a=a=a=a=a=a=a=a=a=a=a=a=1" 257 0 257
     (8 ∷ 257 ∷ 0 ∷ 0 ∷ 0 ∷ []) ∷
     []
 
-agree : map answer cases ≡ map expected cases
+agree-3 : map answer cases-3 ≡ map expected cases-3
 unfolding reading lexedOf lexed isText keywordOf signOf div ofInt toBits put field linked zeroed kindAt startAt lineAt after skipFrom skipLines seenIf checkAt matchesAt pushNode pushError consumeAt requireAt run raised firstOf blockFrom block expressionStmt parametersFrom parameters functionBody fnStmt fnExpr methodsFrom class letStmt namesFrom enhancedFor classicFor forLoop tryCatch elifsFrom elseFrom ifStmt ret brk cont whileStmt statement declaration argumentsFrom arguments list dictElementsFrom dictionary closed access superExpr primary finishCall callFrom call unary lookMany binaryFrom binary assignment body lower topLevel statements parsed
-agree = refl
+agree-3 = refl

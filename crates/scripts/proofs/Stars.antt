@@ -17,34 +17,34 @@ use Rattle.parser.specs.Whole.{topLevel, statements, parsed}
 use Rattle.entry.specs.Reading.{reading}
 use Rattle.scripts.proofs.Cases.{Case, case, map, answer, expected}
 
-abbrev cases : List Case
-cases =
-    case 1 "" 1 0 0
+abbrev cases-1 : List Case
+cases-1 =
+    case 1 1 "" 1 0 0
     (0 ∷ 1 ∷ 0 ∷ 0 ∷ 0 ∷ []) ∷
-    case 1 "\n" 2 1 2
+    case 1 1 "\n" 2 1 2
     (0 ∷ 2 ∷ 1 ∷ 2 ∷ 2 ∷
     4 ∷ 2 ∷ 1 ∷
     17 ∷ 0 ∷ 0 ∷ 0 ∷ 0 ∷ 0 ∷ 0 ∷ 0 ∷ 0 ∷
     30 ∷ 0 ∷ 0 ∷ 0 ∷ 1 ∷ 0 ∷ 0 ∷ 0 ∷ 0 ∷ []) ∷
-    case 1 "\n\n" 3 0 2
+    case 1 1 "\n\n" 3 0 2
     (0 ∷ 3 ∷ 0 ∷ 2 ∷ 2 ∷
     17 ∷ 0 ∷ 0 ∷ 0 ∷ 0 ∷ 0 ∷ 0 ∷ 0 ∷ 0 ∷
     30 ∷ 0 ∷ 0 ∷ 0 ∷ 1 ∷ 0 ∷ 0 ∷ 0 ∷ 0 ∷ []) ∷
-    case 1 "a\n\n" 4 1 4
+    case 1 1 "a\n\n" 4 1 4
     (0 ∷ 4 ∷ 1 ∷ 4 ∷ 2 ∷
     4 ∷ 3 ∷ 3 ∷
     2 ∷ 1 ∷ 0 ∷ 0 ∷ 0 ∷ 0 ∷ 0 ∷ 0 ∷ 0 ∷
     30 ∷ 1 ∷ 0 ∷ 0 ∷ 1 ∷ 0 ∷ 0 ∷ 0 ∷ 4 ∷
     17 ∷ 0 ∷ 0 ∷ 0 ∷ 0 ∷ 0 ∷ 0 ∷ 0 ∷ 0 ∷
     30 ∷ 0 ∷ 0 ∷ 0 ∷ 3 ∷ 0 ∷ 0 ∷ 0 ∷ 0 ∷ []) ∷
-    case 1 "a1" 4 1 4
+    case 1 1 "a1" 4 1 4
     (0 ∷ 4 ∷ 1 ∷ 4 ∷ 2 ∷
     4 ∷ 1 ∷ 1 ∷
     2 ∷ 1 ∷ 0 ∷ 0 ∷ 0 ∷ 0 ∷ 0 ∷ 0 ∷ 0 ∷
     30 ∷ 1 ∷ 0 ∷ 0 ∷ 1 ∷ 0 ∷ 0 ∷ 0 ∷ 4 ∷
     13 ∷ 2 ∷ 0 ∷ 0 ∷ 0 ∷ 0 ∷ 0 ∷ 0 ∷ 0 ∷
     30 ∷ 2 ∷ 0 ∷ 0 ∷ 3 ∷ 0 ∷ 0 ∷ 0 ∷ 0 ∷ []) ∷
-    case 1 "2^3^2" 7 0 6
+    case 1 1 "2^3^2" 7 0 6
     (0 ∷ 7 ∷ 0 ∷ 6 ∷ 6 ∷
     13 ∷ 1 ∷ 0 ∷ 0 ∷ 0 ∷ 0 ∷ 0 ∷ 0 ∷ 0 ∷
     13 ∷ 3 ∷ 0 ∷ 0 ∷ 0 ∷ 0 ∷ 0 ∷ 0 ∷ 0 ∷
@@ -52,41 +52,41 @@ cases =
     13 ∷ 5 ∷ 0 ∷ 0 ∷ 0 ∷ 0 ∷ 0 ∷ 0 ∷ 0 ∷
     7 ∷ 4 ∷ 0 ∷ 0 ∷ 3 ∷ 4 ∷ 0 ∷ 0 ∷ 0 ∷
     30 ∷ 5 ∷ 0 ∷ 0 ∷ 5 ∷ 0 ∷ 0 ∷ 0 ∷ 0 ∷ []) ∷
-    case 1 "-2^2" 6 0 5
+    case 1 1 "-2^2" 6 0 5
     (0 ∷ 6 ∷ 0 ∷ 5 ∷ 5 ∷
     13 ∷ 2 ∷ 0 ∷ 0 ∷ 0 ∷ 0 ∷ 0 ∷ 0 ∷ 0 ∷
     16 ∷ 1 ∷ 0 ∷ 0 ∷ 1 ∷ 0 ∷ 0 ∷ 0 ∷ 0 ∷
     13 ∷ 4 ∷ 0 ∷ 0 ∷ 0 ∷ 0 ∷ 0 ∷ 0 ∷ 0 ∷
     7 ∷ 3 ∷ 0 ∷ 0 ∷ 2 ∷ 3 ∷ 0 ∷ 0 ∷ 0 ∷
     30 ∷ 4 ∷ 0 ∷ 0 ∷ 4 ∷ 0 ∷ 0 ∷ 0 ∷ 0 ∷ []) ∷
-    case 1 "a\n(b)" 7 0 4
+    case 1 1 "a\n(b)" 7 0 4
     (0 ∷ 7 ∷ 0 ∷ 4 ∷ 4 ∷
     2 ∷ 1 ∷ 0 ∷ 0 ∷ 0 ∷ 0 ∷ 0 ∷ 0 ∷ 0 ∷
     2 ∷ 4 ∷ 0 ∷ 0 ∷ 0 ∷ 0 ∷ 0 ∷ 0 ∷ 0 ∷
     8 ∷ 5 ∷ 0 ∷ 0 ∷ 1 ∷ 2 ∷ 0 ∷ 0 ∷ 0 ∷
     30 ∷ 5 ∷ 0 ∷ 0 ∷ 3 ∷ 0 ∷ 0 ∷ 0 ∷ 0 ∷ []) ∷
-    case 1 "1.5" 0 0 0
+    case 1 1 "1.5" 0 0 0
     (2 ∷ 0 ∷ 0 ∷ 0 ∷ 0 ∷ []) ∷
-    case 1 "1.5\n" 3 0 2
+    case 1 1 "1.5\n" 3 0 2
     (0 ∷ 3 ∷ 0 ∷ 2 ∷ 2 ∷
     13 ∷ 1 ∷ 0 ∷ 0 ∷ 0 ∷ 0 ∷ 0 ∷ 0 ∷ 0 ∷
     30 ∷ 1 ∷ 0 ∷ 0 ∷ 1 ∷ 0 ∷ 0 ∷ 0 ∷ 0 ∷ []) ∷
-    case 1 "{return}" 5 1 10
+    case 1 1 "{return}" 5 1 10
     (1 ∷ 5 ∷ 1 ∷ 0 ∷ 0 ∷
     28 ∷ 1 ∷ 7 ∷ []) ∷
-    case 1 "1=2" 5 1 10
+    case 1 1 "1=2" 5 1 10
     (1 ∷ 5 ∷ 1 ∷ 0 ∷ 0 ∷
     23 ∷ 1 ∷ 1 ∷ []) ∷
-    case 1 "break" 3 1 1
+    case 1 1 "break" 3 1 1
     (0 ∷ 3 ∷ 1 ∷ 1 ∷ 1 ∷
     19 ∷ 1 ∷ 0 ∷
     28 ∷ 1 ∷ 0 ∷ 0 ∷ 0 ∷ 0 ∷ 0 ∷ 0 ∷ 0 ∷ []) ∷
-    case 1 "\"\\q\"" 1 2 0
+    case 1 1 "\"\\q\"" 1 2 0
     (0 ∷ 1 ∷ 2 ∷ 0 ∷ 0 ∷
     3 ∷ 1 ∷ 0 ∷
     3 ∷ 1 ∷ 3 ∷ []) ∷
     []
 
-agree : map answer cases ≡ map expected cases
+agree-1 : map answer cases-1 ≡ map expected cases-1
 unfolding reading lexedOf lexed isText keywordOf signOf div ofInt toBits put field linked zeroed kindAt startAt lineAt after skipFrom skipLines seenIf checkAt matchesAt pushNode pushError consumeAt requireAt run raised firstOf blockFrom block expressionStmt parametersFrom parameters functionBody fnStmt fnExpr methodsFrom class letStmt namesFrom enhancedFor classicFor forLoop tryCatch elifsFrom elseFrom ifStmt ret brk cont whileStmt statement declaration argumentsFrom arguments list dictElementsFrom dictionary closed access superExpr primary finishCall callFrom call unary lookMany binaryFrom binary assignment body lower topLevel statements parsed
-agree = refl
+agree-1 = refl

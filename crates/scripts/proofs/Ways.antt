@@ -17,28 +17,28 @@ use Rattle.parser.specs.Whole.{topLevel, statements, parsed}
 use Rattle.entry.specs.Reading.{reading}
 use Rattle.scripts.proofs.Cases.{Case, case, map, answer, expected}
 
-abbrev cases : List Case
-cases =
-    case 0 "a \"b\n" 3 1 2
+abbrev cases-1 : List Case
+cases-1 =
+    case 1 0 "a \"b\n" 3 1 2
     (11 ∷ 3 ∷ 1 ∷ 0 ∷ 0 ∷
     3 ∷ 2 ∷ 2 ∷ []) ∷
-    case 1 "a \"b\n" 3 1 2
+    case 1 1 "a \"b\n" 3 1 2
     (0 ∷ 3 ∷ 1 ∷ 2 ∷ 2 ∷
     3 ∷ 2 ∷ 2 ∷
     2 ∷ 1 ∷ 0 ∷ 0 ∷ 0 ∷ 0 ∷ 0 ∷ 0 ∷ 0 ∷
     30 ∷ 1 ∷ 0 ∷ 0 ∷ 1 ∷ 0 ∷ 0 ∷ 0 ∷ 0 ∷ []) ∷
-    case 0 "\"\\q\"" 1 2 0
+    case 1 0 "\"\\q\"" 1 2 0
     (11 ∷ 1 ∷ 2 ∷ 0 ∷ 0 ∷
     3 ∷ 1 ∷ 0 ∷
     3 ∷ 1 ∷ 3 ∷ []) ∷
-    case 1 "\"\\q\"" 1 2 0
+    case 1 1 "\"\\q\"" 1 2 0
     (0 ∷ 1 ∷ 2 ∷ 0 ∷ 0 ∷
     3 ∷ 1 ∷ 0 ∷
     3 ∷ 1 ∷ 3 ∷ []) ∷
-    case 0 "a $ b )\n" 5 4 10
+    case 1 0 "a $ b )\n" 5 4 10
     (11 ∷ 5 ∷ 1 ∷ 0 ∷ 0 ∷
     2 ∷ 1 ∷ 2 ∷ []) ∷
-    case 1 "a $ b )\n" 5 4 10
+    case 1 1 "a $ b )\n" 5 4 10
     (1 ∷ 5 ∷ 4 ∷ 4 ∷ 2 ∷
     2 ∷ 1 ∷ 2 ∷
     4 ∷ 1 ∷ 4 ∷
@@ -48,38 +48,38 @@ cases =
     30 ∷ 1 ∷ 0 ∷ 0 ∷ 1 ∷ 0 ∷ 0 ∷ 0 ∷ 4 ∷
     2 ∷ 2 ∷ 0 ∷ 0 ∷ 0 ∷ 0 ∷ 0 ∷ 0 ∷ 0 ∷
     30 ∷ 2 ∷ 0 ∷ 0 ∷ 3 ∷ 0 ∷ 0 ∷ 0 ∷ 0 ∷ []) ∷
-    case 0 "a = 1\n" 5 0 4
+    case 1 0 "a = 1\n" 5 0 4
     (0 ∷ 5 ∷ 0 ∷ 4 ∷ 4 ∷
     2 ∷ 1 ∷ 0 ∷ 0 ∷ 0 ∷ 0 ∷ 0 ∷ 0 ∷ 0 ∷
     13 ∷ 3 ∷ 0 ∷ 0 ∷ 0 ∷ 0 ∷ 0 ∷ 0 ∷ 0 ∷
     5 ∷ 1 ∷ 0 ∷ 0 ∷ 2 ∷ 0 ∷ 0 ∷ 0 ∷ 0 ∷
     30 ∷ 3 ∷ 0 ∷ 0 ∷ 3 ∷ 0 ∷ 0 ∷ 0 ∷ 0 ∷ []) ∷
-    case 1 "a = 1\n" 5 0 4
+    case 1 1 "a = 1\n" 5 0 4
     (0 ∷ 5 ∷ 0 ∷ 4 ∷ 4 ∷
     2 ∷ 1 ∷ 0 ∷ 0 ∷ 0 ∷ 0 ∷ 0 ∷ 0 ∷ 0 ∷
     13 ∷ 3 ∷ 0 ∷ 0 ∷ 0 ∷ 0 ∷ 0 ∷ 0 ∷ 0 ∷
     5 ∷ 1 ∷ 0 ∷ 0 ∷ 2 ∷ 0 ∷ 0 ∷ 0 ∷ 0 ∷
     30 ∷ 3 ∷ 0 ∷ 0 ∷ 3 ∷ 0 ∷ 0 ∷ 0 ∷ 0 ∷ []) ∷
-    case 0 "!" 1 1 0
+    case 1 0 "!" 1 1 0
     (11 ∷ 1 ∷ 1 ∷ 0 ∷ 0 ∷
     1 ∷ 1 ∷ 0 ∷ []) ∷
-    case 1 "!" 1 1 0
+    case 1 1 "!" 1 1 0
     (0 ∷ 1 ∷ 1 ∷ 0 ∷ 0 ∷
     1 ∷ 1 ∷ 0 ∷ []) ∷
-    case 0 "" 1 0 0
+    case 1 0 "" 1 0 0
     (0 ∷ 1 ∷ 0 ∷ 0 ∷ 0 ∷ []) ∷
-    case 1 "" 1 0 0
+    case 1 1 "" 1 0 0
     (0 ∷ 1 ∷ 0 ∷ 0 ∷ 0 ∷ []) ∷
-    case 0 "@ 1.5" 0 1 0
+    case 1 0 "@ 1.5" 0 1 0
     (2 ∷ 0 ∷ 1 ∷ 0 ∷ 0 ∷
     2 ∷ 1 ∷ 0 ∷ []) ∷
-    case 1 "@ 1.5" 0 1 0
+    case 1 1 "@ 1.5" 0 1 0
     (2 ∷ 0 ∷ 1 ∷ 0 ∷ 0 ∷
     2 ∷ 1 ∷ 0 ∷ []) ∷
-    case 0 "a b\n!" 4 2 4
+    case 1 0 "a b\n!" 4 2 4
     (11 ∷ 4 ∷ 1 ∷ 0 ∷ 0 ∷
     1 ∷ 2 ∷ 4 ∷ []) ∷
-    case 1 "a b\n!" 4 2 4
+    case 1 1 "a b\n!" 4 2 4
     (0 ∷ 4 ∷ 2 ∷ 4 ∷ 2 ∷
     1 ∷ 2 ∷ 4 ∷
     4 ∷ 1 ∷ 2 ∷
@@ -87,49 +87,49 @@ cases =
     30 ∷ 1 ∷ 0 ∷ 0 ∷ 1 ∷ 0 ∷ 0 ∷ 0 ∷ 4 ∷
     2 ∷ 2 ∷ 0 ∷ 0 ∷ 0 ∷ 0 ∷ 0 ∷ 0 ∷ 0 ∷
     30 ∷ 2 ∷ 0 ∷ 0 ∷ 3 ∷ 0 ∷ 0 ∷ 0 ∷ 0 ∷ []) ∷
-    case 0 "let stop = \"Salicional\nlet pitch = 8\n" 5 2 2
+    case 1 0 "let stop = \"Salicional\nlet pitch = 8\n" 5 2 2
     (11 ∷ 5 ∷ 1 ∷ 0 ∷ 0 ∷
     3 ∷ 3 ∷ 11 ∷ []) ∷
-    case 1 "let stop = \"Salicional\nlet pitch = 8\n" 5 2 2
+    case 1 1 "let stop = \"Salicional\nlet pitch = 8\n" 5 2 2
     (0 ∷ 5 ∷ 2 ∷ 2 ∷ 2 ∷
     3 ∷ 3 ∷ 11 ∷
     4 ∷ 3 ∷ 37 ∷
     17 ∷ 0 ∷ 0 ∷ 0 ∷ 0 ∷ 0 ∷ 0 ∷ 0 ∷ 0 ∷
     19 ∷ 2 ∷ 0 ∷ 0 ∷ 1 ∷ 0 ∷ 0 ∷ 0 ∷ 0 ∷ []) ∷
-    case 0 "$ a b" 1 9 9
+    case 1 0 "$ a b" 1 9 9
     (5 ∷ 1 ∷ 1 ∷ 0 ∷ 0 ∷
     2 ∷ 1 ∷ 0 ∷ []) ∷
-    case 1 "$ a b" 1 9 9
+    case 1 1 "$ a b" 1 9 9
     (5 ∷ 1 ∷ 1 ∷ 0 ∷ 0 ∷
     2 ∷ 1 ∷ 0 ∷ []) ∷
-    case 0 "a $ $" 9 1 9
+    case 1 0 "a $ $" 9 1 9
     (6 ∷ 1 ∷ 1 ∷ 0 ∷ 0 ∷
     2 ∷ 1 ∷ 2 ∷ []) ∷
-    case 1 "a $ $" 9 1 9
+    case 1 1 "a $ $" 9 1 9
     (6 ∷ 1 ∷ 1 ∷ 0 ∷ 0 ∷
     2 ∷ 1 ∷ 2 ∷ []) ∷
-    case 0 "a $ b" 4 1 9
+    case 1 0 "a $ b" 4 1 9
     (11 ∷ 4 ∷ 1 ∷ 0 ∷ 0 ∷
     2 ∷ 1 ∷ 2 ∷ []) ∷
-    case 1 "a $ b" 4 1 9
+    case 1 1 "a $ b" 4 1 9
     (6 ∷ 4 ∷ 1 ∷ 0 ∷ 0 ∷
     2 ∷ 1 ∷ 2 ∷ []) ∷
-    case 0 "a $ b" 4 2 0
+    case 1 0 "a $ b" 4 2 0
     (11 ∷ 4 ∷ 1 ∷ 0 ∷ 0 ∷
     2 ∷ 1 ∷ 2 ∷ []) ∷
-    case 1 "a $ b" 4 2 0
+    case 1 1 "a $ b" 4 2 0
     (7 ∷ 4 ∷ 1 ∷ 0 ∷ 0 ∷
     2 ∷ 1 ∷ 2 ∷ []) ∷
-    case 0 "a\n$ b" 5 1 2
+    case 1 0 "a\n$ b" 5 1 2
     (11 ∷ 5 ∷ 1 ∷ 0 ∷ 0 ∷
     2 ∷ 2 ∷ 2 ∷ []) ∷
-    case 1 "a\n$ b" 5 1 2
+    case 1 1 "a\n$ b" 5 1 2
     (7 ∷ 5 ∷ 1 ∷ 2 ∷ 2 ∷
     2 ∷ 2 ∷ 2 ∷
     2 ∷ 1 ∷ 0 ∷ 0 ∷ 0 ∷ 0 ∷ 0 ∷ 0 ∷ 0 ∷
     30 ∷ 1 ∷ 0 ∷ 0 ∷ 1 ∷ 0 ∷ 0 ∷ 0 ∷ 0 ∷ []) ∷
     []
 
-agree : map answer cases ≡ map expected cases
+agree-1 : map answer cases-1 ≡ map expected cases-1
 unfolding reading lexedOf lexed isText keywordOf signOf div ofInt toBits put field linked zeroed kindAt startAt lineAt after skipFrom skipLines seenIf checkAt matchesAt pushNode pushError consumeAt requireAt run raised firstOf blockFrom block expressionStmt parametersFrom parameters functionBody fnStmt fnExpr methodsFrom class letStmt namesFrom enhancedFor classicFor forLoop tryCatch elifsFrom elseFrom ifStmt ret brk cont whileStmt statement declaration argumentsFrom arguments list dictElementsFrom dictionary closed access superExpr primary finishCall callFrom call unary lookMany binaryFrom binary assignment body lower topLevel statements parsed
-agree = refl
+agree-1 = refl

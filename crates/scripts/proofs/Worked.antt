@@ -17,9 +17,9 @@ use Rattle.parser.specs.Whole.{topLevel, statements, parsed}
 use Rattle.entry.specs.Reading.{reading}
 use Rattle.scripts.proofs.Cases.{Case, case, map, answer, expected}
 
-abbrev cases : List Case
-cases =
-    case 1 "class A < B { f(a, b) { this.x = a } class g() A() h() this.x class i() a }\n" 39 0 21
+abbrev cases-1 : List Case
+cases-1 =
+    case 1 1 "class A < B { f(a, b) { this.x = a } class g() A() h() this.x class i() a }\n" 39 0 21
     (0 ∷ 39 ∷ 0 ∷ 21 ∷ 21 ∷
     2 ∷ 4 ∷ 0 ∷ 0 ∷ 0 ∷ 0 ∷ 0 ∷ 0 ∷ 0 ∷
     32 ∷ 8 ∷ 0 ∷ 0 ∷ 0 ∷ 0 ∷ 0 ∷ 0 ∷ 3 ∷
@@ -42,22 +42,22 @@ cases =
     30 ∷ 36 ∷ 0 ∷ 0 ∷ 18 ∷ 0 ∷ 0 ∷ 0 ∷ 0 ∷
     18 ∷ 33 ∷ 0 ∷ 0 ∷ 0 ∷ 19 ∷ 0 ∷ 0 ∷ 0 ∷
     21 ∷ 2 ∷ 0 ∷ 0 ∷ 9 ∷ 13 ∷ 1 ∷ 0 ∷ 0 ∷ []) ∷
-    case 1 "class A {}\n" 6 0 1
+    case 1 1 "class A {}\n" 6 0 1
     (0 ∷ 6 ∷ 0 ∷ 1 ∷ 1 ∷
     21 ∷ 2 ∷ 0 ∷ 0 ∷ 0 ∷ 0 ∷ 0 ∷ 0 ∷ 0 ∷ []) ∷
-    case 1 "fn f(a, b) {\n  return a\n}\n" 15 0 5
+    case 1 1 "fn f(a, b) {\n  return a\n}\n" 15 0 5
     (0 ∷ 15 ∷ 0 ∷ 5 ∷ 5 ∷
     32 ∷ 4 ∷ 0 ∷ 0 ∷ 0 ∷ 0 ∷ 0 ∷ 0 ∷ 2 ∷
     32 ∷ 6 ∷ 0 ∷ 0 ∷ 0 ∷ 0 ∷ 0 ∷ 0 ∷ 0 ∷
     2 ∷ 11 ∷ 0 ∷ 0 ∷ 0 ∷ 0 ∷ 0 ∷ 0 ∷ 0 ∷
     27 ∷ 10 ∷ 0 ∷ 0 ∷ 3 ∷ 0 ∷ 0 ∷ 0 ∷ 0 ∷
     18 ∷ 2 ∷ 0 ∷ 0 ∷ 1 ∷ 4 ∷ 0 ∷ 0 ∷ 0 ∷ []) ∷
-    case 1 "fn f() a\n" 7 0 3
+    case 1 1 "fn f() a\n" 7 0 3
     (0 ∷ 7 ∷ 0 ∷ 3 ∷ 3 ∷
     2 ∷ 5 ∷ 0 ∷ 0 ∷ 0 ∷ 0 ∷ 0 ∷ 0 ∷ 0 ∷
     30 ∷ 5 ∷ 0 ∷ 0 ∷ 1 ∷ 0 ∷ 0 ∷ 0 ∷ 0 ∷
     18 ∷ 2 ∷ 0 ∷ 0 ∷ 0 ∷ 2 ∷ 0 ∷ 0 ∷ 0 ∷ []) ∷
-    case 1 "let f = fn(a, b) { return a\n }\n" 16 0 6
+    case 1 1 "let f = fn(a, b) { return a\n }\n" 16 0 6
     (0 ∷ 16 ∷ 0 ∷ 6 ∷ 6 ∷
     32 ∷ 6 ∷ 0 ∷ 0 ∷ 0 ∷ 0 ∷ 0 ∷ 0 ∷ 2 ∷
     32 ∷ 8 ∷ 0 ∷ 0 ∷ 0 ∷ 0 ∷ 0 ∷ 0 ∷ 0 ∷
@@ -65,7 +65,7 @@ cases =
     27 ∷ 11 ∷ 0 ∷ 0 ∷ 3 ∷ 0 ∷ 0 ∷ 0 ∷ 0 ∷
     1 ∷ 0 ∷ 0 ∷ 0 ∷ 1 ∷ 4 ∷ 0 ∷ 0 ∷ 0 ∷
     19 ∷ 2 ∷ 0 ∷ 0 ∷ 5 ∷ 0 ∷ 0 ∷ 0 ∷ 0 ∷ []) ∷
-    case 1 "f(fn() a)\n" 9 0 6
+    case 1 1 "f(fn() a)\n" 9 0 6
     (0 ∷ 9 ∷ 0 ∷ 6 ∷ 6 ∷
     2 ∷ 1 ∷ 0 ∷ 0 ∷ 0 ∷ 0 ∷ 0 ∷ 0 ∷ 0 ∷
     2 ∷ 6 ∷ 0 ∷ 0 ∷ 0 ∷ 0 ∷ 0 ∷ 0 ∷ 0 ∷
@@ -73,12 +73,12 @@ cases =
     1 ∷ 0 ∷ 0 ∷ 0 ∷ 0 ∷ 3 ∷ 0 ∷ 0 ∷ 0 ∷
     8 ∷ 7 ∷ 0 ∷ 0 ∷ 1 ∷ 4 ∷ 0 ∷ 0 ∷ 0 ∷
     30 ∷ 7 ∷ 0 ∷ 0 ∷ 5 ∷ 0 ∷ 0 ∷ 0 ∷ 0 ∷ []) ∷
-    case 1 "let a\nlet b = a\n" 9 0 3
+    case 1 1 "let a\nlet b = a\n" 9 0 3
     (0 ∷ 9 ∷ 0 ∷ 3 ∷ 1 ∷
     19 ∷ 2 ∷ 0 ∷ 0 ∷ 0 ∷ 0 ∷ 0 ∷ 0 ∷ 3 ∷
     2 ∷ 7 ∷ 0 ∷ 0 ∷ 0 ∷ 0 ∷ 0 ∷ 0 ∷ 0 ∷
     19 ∷ 5 ∷ 0 ∷ 0 ∷ 2 ∷ 0 ∷ 0 ∷ 0 ∷ 0 ∷ []) ∷
-    case 1 "for let i = 0; i < 9; i = i + 1 { continue }\n" 20 0 13
+    case 1 1 "for let i = 0; i < 9; i = i + 1 { continue }\n" 20 0 13
     (0 ∷ 20 ∷ 0 ∷ 13 ∷ 13 ∷
     13 ∷ 5 ∷ 0 ∷ 0 ∷ 0 ∷ 0 ∷ 0 ∷ 0 ∷ 0 ∷
     19 ∷ 3 ∷ 0 ∷ 0 ∷ 1 ∷ 0 ∷ 0 ∷ 0 ∷ 0 ∷
@@ -93,14 +93,14 @@ cases =
     26 ∷ 17 ∷ 0 ∷ 0 ∷ 0 ∷ 0 ∷ 0 ∷ 0 ∷ 0 ∷
     20 ∷ 0 ∷ 0 ∷ 0 ∷ 11 ∷ 0 ∷ 0 ∷ 0 ∷ 0 ∷
     22 ∷ 1 ∷ 0 ∷ 0 ∷ 2 ∷ 5 ∷ 10 ∷ 12 ∷ 0 ∷ []) ∷
-    case 1 "for ; a; b c\n" 8 0 5
+    case 1 1 "for ; a; b c\n" 8 0 5
     (0 ∷ 8 ∷ 0 ∷ 5 ∷ 5 ∷
     2 ∷ 3 ∷ 0 ∷ 0 ∷ 0 ∷ 0 ∷ 0 ∷ 0 ∷ 0 ∷
     2 ∷ 5 ∷ 0 ∷ 0 ∷ 0 ∷ 0 ∷ 0 ∷ 0 ∷ 0 ∷
     2 ∷ 6 ∷ 0 ∷ 0 ∷ 0 ∷ 0 ∷ 0 ∷ 0 ∷ 0 ∷
     30 ∷ 6 ∷ 0 ∷ 0 ∷ 3 ∷ 0 ∷ 0 ∷ 0 ∷ 0 ∷
     22 ∷ 1 ∷ 0 ∷ 0 ∷ 0 ∷ 1 ∷ 2 ∷ 4 ∷ 0 ∷ []) ∷
-    case 1 "for k, v in d { break }\n" 11 0 6
+    case 1 1 "for k, v in d { break }\n" 11 0 6
     (0 ∷ 11 ∷ 0 ∷ 6 ∷ 6 ∷
     32 ∷ 2 ∷ 0 ∷ 0 ∷ 0 ∷ 0 ∷ 0 ∷ 0 ∷ 2 ∷
     32 ∷ 4 ∷ 0 ∷ 0 ∷ 0 ∷ 0 ∷ 0 ∷ 0 ∷ 0 ∷
@@ -108,14 +108,14 @@ cases =
     28 ∷ 8 ∷ 0 ∷ 0 ∷ 0 ∷ 0 ∷ 0 ∷ 0 ∷ 0 ∷
     20 ∷ 0 ∷ 0 ∷ 0 ∷ 4 ∷ 0 ∷ 0 ∷ 0 ∷ 0 ∷
     23 ∷ 1 ∷ 0 ∷ 0 ∷ 1 ∷ 3 ∷ 5 ∷ 0 ∷ 0 ∷ []) ∷
-    case 1 "while a { break\n continue }\n" 9 0 5
+    case 1 1 "while a { break\n continue }\n" 9 0 5
     (0 ∷ 9 ∷ 0 ∷ 5 ∷ 5 ∷
     2 ∷ 2 ∷ 0 ∷ 0 ∷ 0 ∷ 0 ∷ 0 ∷ 0 ∷ 0 ∷
     28 ∷ 4 ∷ 0 ∷ 0 ∷ 0 ∷ 0 ∷ 0 ∷ 0 ∷ 3 ∷
     26 ∷ 6 ∷ 0 ∷ 0 ∷ 0 ∷ 0 ∷ 0 ∷ 0 ∷ 0 ∷
     20 ∷ 0 ∷ 0 ∷ 0 ∷ 2 ∷ 0 ∷ 0 ∷ 0 ∷ 0 ∷
     24 ∷ 1 ∷ 0 ∷ 0 ∷ 1 ∷ 4 ∷ 0 ∷ 0 ∷ 0 ∷ []) ∷
-    case 1 "try { f() } catch e { g(e) }\n" 16 0 10
+    case 1 1 "try { f() } catch e { g(e) }\n" 16 0 10
     (0 ∷ 16 ∷ 0 ∷ 10 ∷ 10 ∷
     2 ∷ 3 ∷ 0 ∷ 0 ∷ 0 ∷ 0 ∷ 0 ∷ 0 ∷ 0 ∷
     8 ∷ 5 ∷ 0 ∷ 0 ∷ 1 ∷ 0 ∷ 0 ∷ 0 ∷ 0 ∷
@@ -127,14 +127,14 @@ cases =
     30 ∷ 13 ∷ 0 ∷ 0 ∷ 7 ∷ 0 ∷ 0 ∷ 0 ∷ 0 ∷
     20 ∷ 0 ∷ 0 ∷ 0 ∷ 8 ∷ 0 ∷ 0 ∷ 0 ∷ 0 ∷
     29 ∷ 8 ∷ 0 ∷ 0 ∷ 4 ∷ 9 ∷ 0 ∷ 0 ∷ 0 ∷ []) ∷
-    case 1 "try a catch b c\n" 7 0 5
+    case 1 1 "try a catch b c\n" 7 0 5
     (0 ∷ 7 ∷ 0 ∷ 5 ∷ 5 ∷
     2 ∷ 2 ∷ 0 ∷ 0 ∷ 0 ∷ 0 ∷ 0 ∷ 0 ∷ 0 ∷
     30 ∷ 2 ∷ 0 ∷ 0 ∷ 1 ∷ 0 ∷ 0 ∷ 0 ∷ 0 ∷
     2 ∷ 5 ∷ 0 ∷ 0 ∷ 0 ∷ 0 ∷ 0 ∷ 0 ∷ 0 ∷
     30 ∷ 5 ∷ 0 ∷ 0 ∷ 3 ∷ 0 ∷ 0 ∷ 0 ∷ 0 ∷
     29 ∷ 4 ∷ 0 ∷ 0 ∷ 2 ∷ 4 ∷ 0 ∷ 0 ∷ 0 ∷ []) ∷
-    case 1 "if a { b } elif c { d } elif e {} else { f g }\n" 21 0 14
+    case 1 1 "if a { b } elif c { d } elif e {} else { f g }\n" 21 0 14
     (0 ∷ 21 ∷ 0 ∷ 14 ∷ 14 ∷
     2 ∷ 2 ∷ 0 ∷ 0 ∷ 0 ∷ 0 ∷ 0 ∷ 0 ∷ 0 ∷
     2 ∷ 4 ∷ 0 ∷ 0 ∷ 0 ∷ 0 ∷ 0 ∷ 0 ∷ 0 ∷
@@ -150,16 +150,16 @@ cases =
     2 ∷ 18 ∷ 0 ∷ 0 ∷ 0 ∷ 0 ∷ 0 ∷ 0 ∷ 0 ∷
     30 ∷ 18 ∷ 0 ∷ 0 ∷ 12 ∷ 0 ∷ 0 ∷ 0 ∷ 0 ∷
     25 ∷ 1 ∷ 0 ∷ 0 ∷ 1 ∷ 3 ∷ 7 ∷ 11 ∷ 0 ∷ []) ∷
-    case 1 "if a {} else {}\n" 9 0 2
+    case 1 1 "if a {} else {}\n" 9 0 2
     (0 ∷ 9 ∷ 0 ∷ 2 ∷ 2 ∷
     2 ∷ 2 ∷ 0 ∷ 0 ∷ 0 ∷ 0 ∷ 0 ∷ 0 ∷ 0 ∷
     25 ∷ 1 ∷ 0 ∷ 0 ∷ 1 ∷ 0 ∷ 0 ∷ 0 ∷ 0 ∷ []) ∷
-    case 1 "return a\nreturn\n" 6 0 3
+    case 1 1 "return a\nreturn\n" 6 0 3
     (0 ∷ 6 ∷ 0 ∷ 3 ∷ 2 ∷
     2 ∷ 2 ∷ 0 ∷ 0 ∷ 0 ∷ 0 ∷ 0 ∷ 0 ∷ 0 ∷
     27 ∷ 1 ∷ 0 ∷ 0 ∷ 1 ∷ 0 ∷ 0 ∷ 0 ∷ 3 ∷
     27 ∷ 4 ∷ 0 ∷ 0 ∷ 0 ∷ 0 ∷ 0 ∷ 0 ∷ 0 ∷ []) ∷
-    case 1 "{ a b {} }\n" 8 0 6
+    case 1 1 "{ a b {} }\n" 8 0 6
     (0 ∷ 8 ∷ 0 ∷ 6 ∷ 6 ∷
     2 ∷ 2 ∷ 0 ∷ 0 ∷ 0 ∷ 0 ∷ 0 ∷ 0 ∷ 0 ∷
     30 ∷ 2 ∷ 0 ∷ 0 ∷ 1 ∷ 0 ∷ 0 ∷ 0 ∷ 4 ∷
@@ -167,7 +167,7 @@ cases =
     30 ∷ 3 ∷ 0 ∷ 0 ∷ 3 ∷ 0 ∷ 0 ∷ 0 ∷ 5 ∷
     20 ∷ 0 ∷ 0 ∷ 0 ∷ 0 ∷ 0 ∷ 0 ∷ 0 ∷ 0 ∷
     20 ∷ 0 ∷ 0 ∷ 0 ∷ 2 ∷ 0 ∷ 0 ∷ 0 ∷ 0 ∷ []) ∷
-    case 1 "[1, \"x\", true, false, nil,]\n" 14 0 7
+    case 1 1 "[1, \"x\", true, false, nil,]\n" 14 0 7
     (0 ∷ 14 ∷ 0 ∷ 7 ∷ 7 ∷
     13 ∷ 2 ∷ 0 ∷ 0 ∷ 0 ∷ 0 ∷ 0 ∷ 0 ∷ 2 ∷
     13 ∷ 4 ∷ 0 ∷ 0 ∷ 0 ∷ 0 ∷ 0 ∷ 0 ∷ 3 ∷
@@ -176,7 +176,7 @@ cases =
     13 ∷ 10 ∷ 0 ∷ 0 ∷ 0 ∷ 0 ∷ 0 ∷ 0 ∷ 0 ∷
     3 ∷ 12 ∷ 0 ∷ 0 ∷ 1 ∷ 0 ∷ 0 ∷ 0 ∷ 0 ∷
     30 ∷ 12 ∷ 0 ∷ 0 ∷ 6 ∷ 0 ∷ 0 ∷ 0 ∷ 0 ∷ []) ∷
-    case 1 "a = [[], [b]]\n" 12 0 7
+    case 1 1 "a = [[], [b]]\n" 12 0 7
     (0 ∷ 12 ∷ 0 ∷ 7 ∷ 7 ∷
     2 ∷ 1 ∷ 0 ∷ 0 ∷ 0 ∷ 0 ∷ 0 ∷ 0 ∷ 0 ∷
     3 ∷ 5 ∷ 0 ∷ 0 ∷ 0 ∷ 0 ∷ 0 ∷ 0 ∷ 4 ∷
@@ -185,7 +185,7 @@ cases =
     3 ∷ 10 ∷ 0 ∷ 0 ∷ 2 ∷ 0 ∷ 0 ∷ 0 ∷ 0 ∷
     5 ∷ 1 ∷ 0 ∷ 0 ∷ 5 ∷ 0 ∷ 0 ∷ 0 ∷ 0 ∷
     30 ∷ 10 ∷ 0 ∷ 0 ∷ 6 ∷ 0 ∷ 0 ∷ 0 ∷ 0 ∷ []) ∷
-    case 1 "a = {b: 1, \"c\": {},}\n" 15 0 8
+    case 1 1 "a = {b: 1, \"c\": {},}\n" 15 0 8
     (0 ∷ 15 ∷ 0 ∷ 8 ∷ 8 ∷
     2 ∷ 1 ∷ 0 ∷ 0 ∷ 0 ∷ 0 ∷ 0 ∷ 0 ∷ 0 ∷
     2 ∷ 4 ∷ 0 ∷ 0 ∷ 0 ∷ 0 ∷ 0 ∷ 0 ∷ 3 ∷
@@ -195,7 +195,7 @@ cases =
     4 ∷ 13 ∷ 0 ∷ 0 ∷ 2 ∷ 0 ∷ 0 ∷ 0 ∷ 0 ∷
     5 ∷ 1 ∷ 0 ∷ 0 ∷ 6 ∷ 0 ∷ 0 ∷ 0 ∷ 0 ∷
     30 ∷ 13 ∷ 0 ∷ 0 ∷ 7 ∷ 0 ∷ 0 ∷ 0 ∷ 0 ∷ []) ∷
-    case 1 "f()(1, 2).a.b(c,)\n" 18 0 10
+    case 1 1 "f()(1, 2).a.b(c,)\n" 18 0 10
     (0 ∷ 18 ∷ 0 ∷ 10 ∷ 10 ∷
     2 ∷ 1 ∷ 0 ∷ 0 ∷ 0 ∷ 0 ∷ 0 ∷ 0 ∷ 0 ∷
     8 ∷ 3 ∷ 0 ∷ 0 ∷ 1 ∷ 0 ∷ 0 ∷ 0 ∷ 0 ∷
@@ -207,7 +207,7 @@ cases =
     2 ∷ 14 ∷ 0 ∷ 0 ∷ 0 ∷ 0 ∷ 0 ∷ 0 ∷ 0 ∷
     8 ∷ 16 ∷ 0 ∷ 0 ∷ 7 ∷ 8 ∷ 0 ∷ 0 ∷ 0 ∷
     30 ∷ 16 ∷ 0 ∷ 0 ∷ 9 ∷ 0 ∷ 0 ∷ 0 ∷ 0 ∷ []) ∷
-    case 1 "a[1]\na[1:]\na[1:2]\na[1:2:]\n" 27 0 18
+    case 1 1 "a[1]\na[1:]\na[1:2]\na[1:2:]\n" 27 0 18
     (0 ∷ 27 ∷ 0 ∷ 18 ∷ 4 ∷
     2 ∷ 1 ∷ 0 ∷ 0 ∷ 0 ∷ 0 ∷ 0 ∷ 0 ∷ 0 ∷
     13 ∷ 3 ∷ 0 ∷ 0 ∷ 0 ∷ 0 ∷ 0 ∷ 0 ∷ 0 ∷
@@ -227,7 +227,7 @@ cases =
     13 ∷ 23 ∷ 0 ∷ 0 ∷ 0 ∷ 0 ∷ 0 ∷ 0 ∷ 0 ∷
     6 ∷ 20 ∷ 22 ∷ 24 ∷ 14 ∷ 15 ∷ 16 ∷ 0 ∷ 0 ∷
     30 ∷ 25 ∷ 0 ∷ 0 ∷ 17 ∷ 0 ∷ 0 ∷ 0 ∷ 0 ∷ []) ∷
-    case 1 "a[1:2:3]\na[:2]\na[:2:3]\n" 24 0 15
+    case 1 1 "a[1:2:3]\na[:2]\na[:2:3]\n" 24 0 15
     (0 ∷ 24 ∷ 0 ∷ 15 ∷ 6 ∷
     2 ∷ 1 ∷ 0 ∷ 0 ∷ 0 ∷ 0 ∷ 0 ∷ 0 ∷ 0 ∷
     13 ∷ 3 ∷ 0 ∷ 0 ∷ 0 ∷ 0 ∷ 0 ∷ 0 ∷ 0 ∷
@@ -244,7 +244,7 @@ cases =
     13 ∷ 21 ∷ 0 ∷ 0 ∷ 0 ∷ 0 ∷ 0 ∷ 0 ∷ 0 ∷
     6 ∷ 17 ∷ 18 ∷ 20 ∷ 11 ∷ 0 ∷ 12 ∷ 13 ∷ 0 ∷
     30 ∷ 22 ∷ 0 ∷ 0 ∷ 14 ∷ 0 ∷ 0 ∷ 0 ∷ 0 ∷ []) ∷
-    case 1 "a[::3]\na[1::3]\n" 16 0 9
+    case 1 1 "a[::3]\na[1::3]\n" 16 0 9
     (0 ∷ 16 ∷ 0 ∷ 9 ∷ 4 ∷
     2 ∷ 1 ∷ 0 ∷ 0 ∷ 0 ∷ 0 ∷ 0 ∷ 0 ∷ 0 ∷
     13 ∷ 5 ∷ 0 ∷ 0 ∷ 0 ∷ 0 ∷ 0 ∷ 0 ∷ 0 ∷
@@ -255,7 +255,7 @@ cases =
     13 ∷ 13 ∷ 0 ∷ 0 ∷ 0 ∷ 0 ∷ 0 ∷ 0 ∷ 0 ∷
     6 ∷ 9 ∷ 11 ∷ 12 ∷ 5 ∷ 6 ∷ 0 ∷ 7 ∷ 0 ∷
     30 ∷ 14 ∷ 0 ∷ 0 ∷ 8 ∷ 0 ∷ 0 ∷ 0 ∷ 0 ∷ []) ∷
-    case 1 "a = b = 1\na.b = 1\n" 13 0 11
+    case 1 1 "a = b = 1\na.b = 1\n" 13 0 11
     (0 ∷ 13 ∷ 0 ∷ 11 ∷ 6 ∷
     2 ∷ 1 ∷ 0 ∷ 0 ∷ 0 ∷ 0 ∷ 0 ∷ 0 ∷ 0 ∷
     2 ∷ 3 ∷ 0 ∷ 0 ∷ 0 ∷ 0 ∷ 0 ∷ 0 ∷ 0 ∷
@@ -268,7 +268,7 @@ cases =
     13 ∷ 11 ∷ 0 ∷ 0 ∷ 0 ∷ 0 ∷ 0 ∷ 0 ∷ 0 ∷
     10 ∷ 9 ∷ 0 ∷ 0 ∷ 7 ∷ 9 ∷ 0 ∷ 0 ∷ 0 ∷
     30 ∷ 11 ∷ 0 ∷ 0 ∷ 10 ∷ 0 ∷ 0 ∷ 0 ∷ 0 ∷ []) ∷
-    case 1 "a[1] = 2\na[1][2] = 3\n" 18 0 14
+    case 1 1 "a[1] = 2\na[1][2] = 3\n" 18 0 14
     (0 ∷ 18 ∷ 0 ∷ 14 ∷ 6 ∷
     2 ∷ 1 ∷ 0 ∷ 0 ∷ 0 ∷ 0 ∷ 0 ∷ 0 ∷ 0 ∷
     13 ∷ 3 ∷ 0 ∷ 0 ∷ 0 ∷ 0 ∷ 0 ∷ 0 ∷ 0 ∷
@@ -284,7 +284,7 @@ cases =
     13 ∷ 16 ∷ 0 ∷ 0 ∷ 0 ∷ 0 ∷ 0 ∷ 0 ∷ 0 ∷
     5 ∷ 8 ∷ 0 ∷ 0 ∷ 12 ∷ 11 ∷ 0 ∷ 0 ∷ 0 ∷
     30 ∷ 16 ∷ 0 ∷ 0 ∷ 13 ∷ 0 ∷ 0 ∷ 0 ∷ 0 ∷ []) ∷
-    case 1 "a.b[1:2] = 3\na[1].b[2] = 3\n" 24 0 17
+    case 1 1 "a.b[1:2] = 3\na[1].b[2] = 3\n" 24 0 17
     (0 ∷ 24 ∷ 0 ∷ 17 ∷ 8 ∷
     2 ∷ 1 ∷ 0 ∷ 0 ∷ 0 ∷ 0 ∷ 0 ∷ 0 ∷ 0 ∷
     9 ∷ 3 ∷ 0 ∷ 0 ∷ 1 ∷ 0 ∷ 0 ∷ 0 ∷ 0 ∷
@@ -303,7 +303,7 @@ cases =
     13 ∷ 22 ∷ 0 ∷ 0 ∷ 0 ∷ 0 ∷ 0 ∷ 0 ∷ 0 ∷
     10 ∷ 17 ∷ 0 ∷ 0 ∷ 11 ∷ 15 ∷ 14 ∷ 0 ∷ 0 ∷
     30 ∷ 22 ∷ 0 ∷ 0 ∷ 16 ∷ 0 ∷ 0 ∷ 0 ∷ 0 ∷ []) ∷
-    case 1 "super.m()\nsuper(a)\nthis\n" 14 0 9
+    case 1 1 "super.m()\nsuper(a)\nthis\n" 14 0 9
     (0 ∷ 14 ∷ 0 ∷ 9 ∷ 3 ∷
     11 ∷ 1 ∷ 3 ∷ 0 ∷ 0 ∷ 0 ∷ 0 ∷ 0 ∷ 0 ∷
     8 ∷ 5 ∷ 0 ∷ 0 ∷ 1 ∷ 0 ∷ 0 ∷ 0 ∷ 0 ∷
@@ -314,7 +314,7 @@ cases =
     30 ∷ 10 ∷ 0 ∷ 0 ∷ 6 ∷ 0 ∷ 0 ∷ 0 ∷ 9 ∷
     15 ∷ 12 ∷ 0 ∷ 0 ∷ 0 ∷ 0 ∷ 0 ∷ 0 ∷ 0 ∷
     30 ∷ 12 ∷ 0 ∷ 0 ∷ 8 ∷ 0 ∷ 0 ∷ 0 ∷ 0 ∷ []) ∷
-    case 1 "not a\n- - a\nnot - not a\n" 13 0 11
+    case 1 1 "not a\n- - a\nnot - not a\n" 13 0 11
     (0 ∷ 13 ∷ 0 ∷ 11 ∷ 6 ∷
     2 ∷ 2 ∷ 0 ∷ 0 ∷ 0 ∷ 0 ∷ 0 ∷ 0 ∷ 0 ∷
     16 ∷ 1 ∷ 0 ∷ 0 ∷ 1 ∷ 0 ∷ 0 ∷ 0 ∷ 0 ∷
@@ -327,7 +327,7 @@ cases =
     16 ∷ 9 ∷ 0 ∷ 0 ∷ 8 ∷ 0 ∷ 0 ∷ 0 ∷ 0 ∷
     16 ∷ 8 ∷ 0 ∷ 0 ∷ 9 ∷ 0 ∷ 0 ∷ 0 ∷ 0 ∷
     30 ∷ 11 ∷ 0 ∷ 0 ∷ 10 ∷ 0 ∷ 0 ∷ 0 ∷ 0 ∷ []) ∷
-    case 1 "a or b and c == d != e > f >= g\n" 15 0 14
+    case 1 1 "a or b and c == d != e > f >= g\n" 15 0 14
     (0 ∷ 15 ∷ 0 ∷ 14 ∷ 14 ∷
     2 ∷ 1 ∷ 0 ∷ 0 ∷ 0 ∷ 0 ∷ 0 ∷ 0 ∷ 0 ∷
     2 ∷ 3 ∷ 0 ∷ 0 ∷ 0 ∷ 0 ∷ 0 ∷ 0 ∷ 0 ∷
@@ -343,7 +343,7 @@ cases =
     14 ∷ 4 ∷ 0 ∷ 0 ∷ 2 ∷ 11 ∷ 0 ∷ 0 ∷ 0 ∷
     14 ∷ 2 ∷ 0 ∷ 0 ∷ 1 ∷ 12 ∷ 0 ∷ 0 ∷ 0 ∷
     30 ∷ 13 ∷ 0 ∷ 0 ∷ 13 ∷ 0 ∷ 0 ∷ 0 ∷ 0 ∷ []) ∷
-    case 1 "a < b <= c + d - e / f % g * h ^ i ^ -j\n" 22 0 21
+    case 1 1 "a < b <= c + d - e / f % g * h ^ i ^ -j\n" 22 0 21
     (0 ∷ 22 ∷ 0 ∷ 21 ∷ 21 ∷
     2 ∷ 1 ∷ 0 ∷ 0 ∷ 0 ∷ 0 ∷ 0 ∷ 0 ∷ 0 ∷
     2 ∷ 3 ∷ 0 ∷ 0 ∷ 0 ∷ 0 ∷ 0 ∷ 0 ∷ 0 ∷
@@ -366,7 +366,15 @@ cases =
     7 ∷ 8 ∷ 0 ∷ 0 ∷ 6 ∷ 18 ∷ 0 ∷ 0 ∷ 0 ∷
     7 ∷ 4 ∷ 0 ∷ 0 ∷ 3 ∷ 19 ∷ 0 ∷ 0 ∷ 0 ∷
     30 ∷ 20 ∷ 0 ∷ 0 ∷ 20 ∷ 0 ∷ 0 ∷ 0 ∷ 0 ∷ []) ∷
-    case 1 "a ^ b * c + d <= e != f and g or h\n" 17 0 16
+    []
+
+agree-1 : map answer cases-1 ≡ map expected cases-1
+unfolding reading lexedOf lexed isText keywordOf signOf div ofInt toBits put field linked zeroed kindAt startAt lineAt after skipFrom skipLines seenIf checkAt matchesAt pushNode pushError consumeAt requireAt run raised firstOf blockFrom block expressionStmt parametersFrom parameters functionBody fnStmt fnExpr methodsFrom class letStmt namesFrom enhancedFor classicFor forLoop tryCatch elifsFrom elseFrom ifStmt ret brk cont whileStmt statement declaration argumentsFrom arguments list dictElementsFrom dictionary closed access superExpr primary finishCall callFrom call unary lookMany binaryFrom binary assignment body lower topLevel statements parsed
+agree-1 = refl
+
+abbrev cases-2 : List Case
+cases-2 =
+    case 1 1 "a ^ b * c + d <= e != f and g or h\n" 17 0 16
     (0 ∷ 17 ∷ 0 ∷ 16 ∷ 16 ∷
     2 ∷ 1 ∷ 0 ∷ 0 ∷ 0 ∷ 0 ∷ 0 ∷ 0 ∷ 0 ∷
     2 ∷ 3 ∷ 0 ∷ 0 ∷ 0 ∷ 0 ∷ 0 ∷ 0 ∷ 0 ∷
@@ -386,6 +394,6 @@ cases =
     30 ∷ 15 ∷ 0 ∷ 0 ∷ 15 ∷ 0 ∷ 0 ∷ 0 ∷ 0 ∷ []) ∷
     []
 
-agree : map answer cases ≡ map expected cases
+agree-2 : map answer cases-2 ≡ map expected cases-2
 unfolding reading lexedOf lexed isText keywordOf signOf div ofInt toBits put field linked zeroed kindAt startAt lineAt after skipFrom skipLines seenIf checkAt matchesAt pushNode pushError consumeAt requireAt run raised firstOf blockFrom block expressionStmt parametersFrom parameters functionBody fnStmt fnExpr methodsFrom class letStmt namesFrom enhancedFor classicFor forLoop tryCatch elifsFrom elseFrom ifStmt ret brk cont whileStmt statement declaration argumentsFrom arguments list dictElementsFrom dictionary closed access superExpr primary finishCall callFrom call unary lookMany binaryFrom binary assignment body lower topLevel statements parsed
-agree = refl
+agree-2 = refl

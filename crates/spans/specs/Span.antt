@@ -4,9 +4,9 @@ use mathlib.Core.Bool.{Bool, true, false, not, _&&_, _||_}
 use mathlib.Core.List.{List, [], _∷_}
 use lib.Dec.{leb, eqb}
 use Rattle.spans.specs.declared.Class.{Class}
-use Rattle.spans.specs.declared.Class.the-variants.{Name, Digit, Comment}
+use Rattle.spans.specs.declared.Class.the-variants.{Name, Word, Digit, Comment}
 
--- names are letters and _, no digits
+-- letters and _
 abbrev pub isAlpha : ℕ → Bool
 isAlpha b = (leb 97 b && leb b 122) || ((leb 65 b && leb b 90) || eqb b 95)
 
@@ -21,6 +21,7 @@ isInner b = not (eqb b 10)
 -- whether a byte belongs to the run
 abbrev pub inClass : Class → ℕ → Bool
 inClass Name b = isAlpha b
+inClass Word b = isAlpha b || isDigit b
 inClass Digit b = isDigit b
 inClass Comment b = isInner b
 

@@ -6,7 +6,10 @@ ghost use Rattle.spans.specs.Span.{isAlpha, isDigit, isInner, inClass, r
 
 // What a span is made of.
 pub enum Class {
+    // Letters and _.
     Name,
+    // Letters, _ and digits.
+    Word,
     Digit,
     Comment,
 }
@@ -29,6 +32,7 @@ pub fn in_class(k: Class, c: u8) -> bool
 {
     match k {
         Class::Name => is_alpha(c),
+        Class::Word => is_alpha(c) | is_digit(c),
         Class::Digit => is_digit(c),
         Class::Comment => c != b'\n',
     }
@@ -47,12 +51,6 @@ pub fn span_end(s: &[u8], i: usize, k: Class) -> usize
         }
     }
     j
-}
-
-pub fn name_end(s: &[u8], i: usize) -> usize
-    ensures { λ r. ⌜ r ≡ i + run isAlpha (drop i (now (s .entry))) ⌝ }
-{
-    span_end(s, i, Class::Name)
 }
 
 pub fn digits_end(s: &[u8], i: usize) -> usize

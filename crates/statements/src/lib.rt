@@ -8,11 +8,17 @@ use parser::Parsed;
 use parser::State;
 use token::Token;
 
-// `parse`: the top-level statements; each is finished after its newline test.
-pub fn parse(tokens: &[u32], errors: &mut [u32], nodes: &mut [u32], recorded: u32) -> Parsed
-    ensures { λ r. ⌜ Parsing (parsed (now (tokens .entry)) recorded (now (errors .entry)) (now (nodes .entry))) r (now (errors .exit)) (now (nodes .exit)) ⌝ }
+// `parse`: the top-level statements, by a rule; each is finished after its newline test.
+pub fn parse(
+    rule: u32,
+    tokens: &[u32],
+    errors: &mut [u32],
+    nodes: &mut [u32],
+    recorded: u32,
+) -> Parsed
+    ensures { λ r. ⌜ Parsing (parsed rule (now (tokens .entry)) recorded (now (errors .entry)) (now (nodes .entry))) r (now (errors .exit)) (now (nodes .exit)) ⌝ }
 {
-    let mut s = State::fresh(recorded);
+    let mut s = State::fresh(rule, recorded);
     let mut first = 0;
     let mut last = 0;
     loop {

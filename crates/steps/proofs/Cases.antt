@@ -5,6 +5,7 @@ use mathlib.Core.List.{List}
 use Prim.Native.Nat.{ℕ}
 use lib.Dec.{eqb}
 use borrow.Author.Tests.{eq-eqb, ne-eqb}
+use Rattle.rules.specs.Rules.{known}
 use Rattle.records.specs.Table.{linked}
 use Rattle.lexer.specs.declared.Scanned.{Scanned}
 use Rattle.parser.specs.declared.State as state
@@ -20,7 +21,7 @@ use Rattle.host.specs.declared.Parser.{Parser}
 use Rattle.host.specs.Kept.{fresh, stateOf, markedAs, behind, stoppedAt}
 use Rattle.host.specs.Fits.{fitsIn}
 use Rattle.steps.specs.declared.Stepped.{Stepped}
-use Rattle.steps.specs.Steps.{Called, left, leaving, final, pickCall, restOf, begunBy, begunAfter, begun, refusedAs, afterOne, oneOf, nextOf}
+use Rattle.steps.specs.Steps.{Called, left, leaving, final, pickCall, restOf, begunBy, begunAfter, begun, refusedAs, afterOne, oneOf, ruledOf, nextOf}
 
 -- the four parts of a call
 pub parts : (c d : Called) → c ≡ d → (c .stepped ≡ d .stepped) × (c .tokens ≡ d .tokens) × (c .errors ≡ d .errors) × (c .nodes ≡ d .nodes)
@@ -64,14 +65,29 @@ module _ (T : List ℕ) (p : Parser) (E N : List ℕ) (k : ℕ) (is : k ≡ kind
     one-linked n s m h N″ l = (λ i. restOf T (h i) E′ (l i)) ∙ sym (one-came ∙ ap (λ (g : Got). afterOne T p (reply q g E′ N′)) s)
 
 -- ---- after lexing
-module _ (s t e n : List ℕ) (p : Parser) (T E N : List ℕ) (d : Scanned) (l : Enters (entered (p .way) s t e n) d T E N) where
+module _ (s t e n : List ℕ) (p : Parser) where
+  -- by whether the rule is known
+  abbrev ruled : Bool → Called
+  ruled b = pickCall b (λ _. begunAfter p (entered (p .rule) (p .way) s t e n)) λ _. left (refusedAs 13 p) t e n
+
+  -- 13
+  pub begun-refuses : known (p .rule) ≡ false → (m : Stepped) → m ≡ refusedAs 13 p → left m t e n ≡ begun s t e n p
+  unfolding begun
+  begun-refuses k m h = (λ i. left (h i) t e n) ∙ ap ruled (sym k)
+
+  -- the source is lexed
+  pub begun-known : known (p .rule) ≡ true → begunAfter p (entered (p .rule) (p .way) s t e n) ≡ begun s t e n p
+  unfolding begun
+  begun-known k = ap ruled (sym k)
+
+module _ (s t e n : List ℕ) (p : Parser) (k : known (p .rule) ≡ true) (T E N : List ℕ) (d : Scanned) (l : Enters (entered (p .rule) (p .way) s t e n) d T E N) where
   -- by the test
   begun-by : (b : Bool) → eqb (d .outcome) 0 ≡ b
       → begunBy b p (standing d T E N) ≡ begun s t e n p
-  unfolding begun
   begun-by b h =
       ap (λ (x : Bool). begunBy x p (standing d T E N)) (sym h)
-      ∙ ap (begunAfter p) (stands-as (entered (p .way) s t e n) d T E N l)
+      ∙ ap (begunAfter p) (stands-as (entered (p .rule) (p .way) s t e n) d T E N l)
+      ∙ begun-known s t e n p k
 
   module _ (q : Parser) (new : q ≡ fresh p (d .tokens) (d .errors)) where
     -- what was lexed is read
@@ -86,22 +102,34 @@ module _ (s t e n : List ℕ) (p : Parser) (T E N : List ℕ) (d : Scanned) (l :
 module _ (T E N : List ℕ) (p : Parser) where
   -- whether the final answer was given
   abbrev by : Bool → Called
-  by b = pickCall b (λ _. pickCall (fitsIn T E N p) (λ _. oneOf T p E N) λ _. left (refusedAs p) T E N) λ _. left (leaving p) T E N
+  by b = pickCall b (λ _. pickCall (fitsIn T E N p) (λ _. ruledOf T E N p) λ _. left (refusedAs 18 p) T E N) λ _. left (leaving p) T E N
+
+  -- whether the parser goes with the tables
+  abbrev fitting : Bool → Called
+  fitting b = pickCall b (λ _. ruledOf T E N p) λ _. left (refusedAs 18 p) T E N
+
+  -- whether its rule is known
+  abbrev ruling : Bool → Called
+  ruling b = pickCall b (λ _. oneOf T p E N) λ _. left (refusedAs 13 p) T E N
 
   -- the final answer once more
   pub next-again : (p .ended ≡ 0 → ⊥) → left (leaving p) T E N ≡ nextOf T E N p
   unfolding nextOf
   next-again z = ap by (sym (ne-eqb (p .ended) 0 z))
 
-  module _ (z : p .ended ≡ 0) (b : Bool) (is : b ≡ fitsIn T E N p) where
-    next-tests : pickCall b (λ _. oneOf T p E N) (λ _. left (refusedAs p) T E N) ≡ nextOf T E N p
+  module _ (z : p .ended ≡ 0) where
+    next-tests : fitting (fitsIn T E N p) ≡ nextOf T E N p
     unfolding nextOf
-    next-tests = ap (λ (x : Bool). pickCall x (λ _. oneOf T p E N) λ _. left (refusedAs p) T E N) is ∙ ap by (sym (eq-eqb (p .ended) 0 z))
+    next-tests = ap by (sym (eq-eqb (p .ended) 0 z))
 
     -- 18
-    pub next-refuses : b ≡ false → left (refusedAs p) T E N ≡ nextOf T E N p
-    next-refuses h = ap (λ (x : Bool). pickCall x (λ _. oneOf T p E N) λ _. left (refusedAs p) T E N) (sym h) ∙ next-tests
+    pub next-refuses : fitsIn T E N p ≡ false → (m : Stepped) → m ≡ refusedAs 18 p → left m T E N ≡ nextOf T E N p
+    next-refuses h m is = (λ i. left (is i) T E N) ∙ ap fitting (sym h) ∙ next-tests
+
+    -- 13
+    pub next-unruled : fitsIn T E N p ≡ true → known (p .rule) ≡ false → (m : Stepped) → m ≡ refusedAs 13 p → left m T E N ≡ nextOf T E N p
+    next-unruled h k m is = (λ i. left (is i) T E N) ∙ ap ruling (sym k) ∙ ap fitting (sym h) ∙ next-tests
 
     -- one statement
-    pub next-goes-on : b ≡ true → oneOf T p E N ≡ nextOf T E N p
-    next-goes-on h = ap (λ (x : Bool). pickCall x (λ _. oneOf T p E N) λ _. left (refusedAs p) T E N) (sym h) ∙ next-tests
+    pub next-goes-on : fitsIn T E N p ≡ true → known (p .rule) ≡ true → oneOf T p E N ≡ nextOf T E N p
+    next-goes-on h k = ap ruling (sym k) ∙ ap fitting (sym h) ∙ next-tests

@@ -6,6 +6,7 @@ use lib.Dec.{eqb}
 use Rattle.token.specs.Kind.{EOF}
 use Rattle.records.specs.Table.{linked, zeroed, nodeWidth}
 use Rattle.records.specs.Outcomes as outcomes
+use Rattle.rules.specs.Rules.{known}
 use Rattle.parser.specs.declared.Got.the-variants.{Node, Stop}
 use Rattle.parser.specs.Tokens.{kindAt}
 use Rattle.parser.specs.Tables.{Reply, reply}
@@ -49,6 +50,10 @@ pickCall false a b = b tt
 unfoldable pub restOf : List ℕ → Parser → List ℕ → List ℕ → Called
 restOf T p E N = pickCall (eqb (kindAt T (p .current)) EOF) (λ _. final outcomes.ended p T E N) λ _. left (leaving (markedAs 0 outcomes.goesOn p)) T E N
 
+-- a refusal, with counts and first statement 0, and nothing changed
+abbrev pub refusedAs : ℕ → Parser → Stepped
+refusedAs outcome p = record { parser = p; answer = record { outcome = outcome; tokens = 0; errors = 0; nodes = 0; first = 0 } }
+
 -- ---- begin
 -- what stands when lexing is over is read, a statement at a time, where the test holds; or its outcome is the final answer
 abbrev pub begunBy : Bool → Parser → Entered → Called
@@ -60,15 +65,11 @@ begunBy b p d =
 abbrev pub begunAfter : Parser → Entered → Called
 begunAfter p d = begunBy (eqb (d .outcome) outcomes.ended) p d
 
--- `begin`, of any source into tables t, e and n, on the parser's way: what else the parser was does not matter
+-- `begin`, of any source into tables t, e and n, by the parser's rule and on its way: what else the parser was does not matter; 13 where the rule is none
 unfoldable pub begun : List ℕ → List ℕ → List ℕ → List ℕ → Parser → Called
-begun s t e n p = begunAfter p (entered (p .way) s t e n)
+begun s t e n p = pickCall (known (p .rule)) (λ _. begunAfter p (entered (p .rule) (p .way) s t e n)) λ _. left (refusedAs outcomes.wrongRule p) t e n
 
 -- ---- read
--- 18, with counts and first statement 0, and nothing changed
-abbrev pub refusedAs : Parser → Stepped
-refusedAs p = record { parser = p; answer = record { outcome = outcomes.doesNotFit; tokens = 0; errors = 0; nodes = 0; first = 0 } }
-
 -- by what came of a statement: it is linked behind the last one; or it stopped the reading
 abbrev pub afterOne : List ℕ → Parser → Reply → Called
 afterOne T p (reply q (Node f) E N) = restOf T (behind p q (f .node)) E (linked N (p .last) (f .node))
@@ -78,11 +79,15 @@ afterOne T p (reply q (Stop o) E N) = final o (stoppedAt p (q .errors)) T E N
 unfoldable pub oneOf : List ℕ → Parser → List ℕ → List ℕ → Called
 oneOf T p E N = pickCall (eqb (kindAt T (p .current)) EOF) (λ _. final outcomes.ended p T E N) λ _. afterOne T p (topLevel T (stateOf p) E N)
 
--- `read`, of any parser and any tables: the final answer once more, where it was given; else 18 or one statement
+-- where the parser goes with the tables: 13 where its rule is none, else one statement
+abbrev pub ruledOf : List ℕ → List ℕ → List ℕ → Parser → Called
+ruledOf T E N p = pickCall (known (p .rule)) (λ _. oneOf T p E N) λ _. left (refusedAs outcomes.wrongRule p) T E N
+
+-- `read`, of any parser and any tables: the final answer once more, where it was given; else 18, 13 or one statement
 unfoldable pub nextOf : List ℕ → List ℕ → List ℕ → Parser → Called
 nextOf T E N p =
     pickCall (eqb (p .ended) 0)
-    (λ _. pickCall (fitsIn T E N p) (λ _. oneOf T p E N) λ _. left (refusedAs p) T E N) λ _.
+    (λ _. pickCall (fitsIn T E N p) (λ _. ruledOf T E N p) λ _. left (refusedAs outcomes.doesNotFit p) T E N) λ _.
     left (leaving p) T E N
 
 -- ---- calls one after the other

@@ -2,7 +2,7 @@
 ghost use mathlib.Core.Path.{_≡_};
 ghost use mathlib.Core.List.{List};
 ghost use Prim.Native.Nat.{ℕ};
-ghost use Rattle.steps.specs.Steps.{left, leaving, final, restOf, begun, oneOf, nextOf};
+ghost use Rattle.steps.specs.Steps.{left, leaving, refusedAs, final, restOf, begun, oneOf, nextOf};
 use entry::Answer;
 use host::Parser;
 use parser::Got;
@@ -28,6 +28,22 @@ fn leave(p: Parser) -> Stepped
             errors: p.errors,
             nodes: p.nodes,
             first: p.first,
+        },
+    }
+}
+
+// A refusal: the parser as it is, and an answer without counts.
+fn refuse(p: Parser, outcome: u32) -> Stepped
+    ensures { λ r. ⌜ r ≡ refusedAs outcome p ⌝ }
+{
+    Stepped {
+        parser: p,
+        answer: Answer {
+            outcome,
+            tokens: 0,
+            errors: 0,
+            nodes: 0,
+            first: 0,
         },
     }
 }
@@ -63,6 +79,7 @@ fn one(tokens: &[u32], errors: &mut [u32], nodes: &mut [u32], p: Parser) -> Step
         return finish(nodes, p, Outcome::ENDED);
     }
     let s = parser::State {
+        rule: p.rule,
         current: p.current,
         errors: p.errors,
         nodes: p.nodes,
@@ -85,7 +102,7 @@ fn one(tokens: &[u32], errors: &mut [u32], nodes: &mut [u32], p: Parser) -> Step
     }
 }
 
-// The core of `begin`: the source is lexed, and read on the parser's way, whatever else the parser was.
+// The core of `begin`: the source is lexed by the parser's rule, and read on its way, whatever else the parser was. Where the rule is none nothing changes.
 pub fn start(
     source: &[u8],
     tokens: &mut [u32],
@@ -98,7 +115,10 @@ pub fn start(
         × (now (errors .exit) ≡ begun (now (source .entry)) (now (tokens .entry)) (now (errors .entry)) (now (nodes .entry)) p .errors)
         × (now (nodes .exit) ≡ begun (now (source .entry)) (now (tokens .entry)) (now (errors .entry)) (now (nodes .entry)) p .nodes) ⌝ }
 {
-    let d = entry::enter(p.way, source, tokens, errors, nodes);
+    if !rules::is_known(p.rule) {
+        return refuse(p, Outcome::WRONG_RULE);
+    }
+    let d = entry::enter(p.rule, p.way, source, tokens, errors, nodes);
     let q = p.fresh(d.tokens, d.errors);
     if d.outcome == Outcome::ENDED {
         return rest(tokens, nodes, q);
@@ -107,7 +127,7 @@ pub fn start(
     leave(ended)
 }
 
-// The core of `read`: the final answer once more, 18, or one statement. The source is not looked at again.
+// The core of `read`: the final answer once more, 18, 13, or one statement. The source is not looked at again.
 pub fn step(
     _source: &[u8],
     tokens: &mut [u32],
@@ -122,18 +142,12 @@ pub fn step(
 {
     if p.is_open() {
         if host::fits(tokens, errors, nodes, p) {
-            return one(tokens, errors, nodes, p);
+            if rules::is_known(p.rule) {
+                return one(tokens, errors, nodes, p);
+            }
+            return refuse(p, Outcome::WRONG_RULE);
         }
-        return Stepped {
-            parser: p,
-            answer: Answer {
-                outcome: Outcome::DOES_NOT_FIT,
-                tokens: 0,
-                errors: 0,
-                nodes: 0,
-                first: 0,
-            },
-        };
+        return refuse(p, Outcome::DOES_NOT_FIT);
     }
     leave(p)
 }

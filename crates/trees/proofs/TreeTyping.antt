@@ -25,7 +25,7 @@ use Rattle.parser.specs.declared.Seen.{Seen}
 use Rattle.parser.specs.declared.Seen.the-variants.{At, Nothing}
 use Rattle.parser.specs.Tokens.{count, kindAt, after, skipFrom, skipLines, seenIf, checkAt, matchesAt}
 use Rattle.parser.specs.Tables.{Reply, reply, moved, looped, plain, pushNode, pushError, ifSeen, andThen, consumeAt, requireAt}
-use Rattle.parser.specs.Programs.{Reader, Which, Declaration, Assignment, Operand, Prog, give, stop, _>>=_, _>>_, look, check, atEnd, previous, node, link, fail, failAt, consume, require, enterLoop, leaveLoop, insideLoop, inFunction, down, either, restored, run}
+use Rattle.parser.specs.Programs.{Reader, Which, Declaration, Assignment, Operand, Prog, give, stop, _>>=_, _>>_, look, check, atEnd, previous, node, link, fail, failAt, consume, require, enterLoop, leaveLoop, giveBack, insideLoop, inFunction, down, either, restored, run}
 use Rattle.parser.specs.Grammar.{body, lower}
 use Rattle.parser.proofs.Push.{push-node, push-error}
 use Rattle.trees.specs.Trees.{Sort, Expression, Statement, Index, tightOf, Child, Formed, Forest}
@@ -161,6 +161,7 @@ module _ (T : List ℕ) where
   Wp b (require kind message) R u N = (t : ℕ) → t ≤ count T → R (plain t) u N
   Wp b enterLoop R u N = R (plain 0) u N
   Wp b leaveLoop R u N = R (plain 0) u N
+  Wp b giveBack R u N = R (plain 0) u N
   Wp b (insideLoop found missing) R u N = Wp b found R u N × Wp b missing R u N
   Wp b (inFunction name m) R u N = Wp b m R u N
   Wp b (down w) R u N = (f : Found) (v : ℕ) (M : List ℕ) → Later u N v M → Forest T u v M → Held T (sortOf w) (tightFrom w) u f v M → R f v M
@@ -201,6 +202,7 @@ module _ (T : List ℕ) where
   weaken b d N₀ h (require kind message) R′ R u N p a x w o = λ t l. o (plain t) u N p a x (w t l)
   weaken b d N₀ h enterLoop R′ R u N p a x w o = o (plain 0) u N p a x w
   weaken b d N₀ h leaveLoop R′ R u N p a x w o = o (plain 0) u N p a x w
+  weaken b d N₀ h giveBack R′ R u N p a x w o = o (plain 0) u N p a x w
   weaken b d N₀ h (insideLoop found missing) R′ R u N p a x w o = (weaken b d N₀ h found R′ R u N p a x (w .0) o, weaken b d N₀ h missing R′ R u N p a x (w .1) o)
   weaken b d N₀ h (inFunction name m) R′ R u N p a x w o = weaken b d N₀ h m R′ R u N p a x w o
   weaken b d N₀ h (down k) R′ R u N p a x w o = λ f v M l y z. let g = l .up in o f v M (omega arith) (λ i k y z c. l .same i k y (omega arith) c ∙ a i k y z c) (forest-join T d u v N M p x l y) (w f v M l y z)
@@ -324,6 +326,7 @@ module _ (T : List ℕ) where
     sound (require kind message) p E N b R st w = done-passed b R N kind (matchesAt T (p .current) kind) _ _ (matches-le T (p .current) kind (st .cursor)) (λ i t. record { done = (kept-all b N, state-moved i (t .within) st, w i (t .within)) }) (done-then b (λ f v M. Unit {0}) R N (pushError T message (p .current) p E N) _ (done-error b (λ f v M. Unit {0}) message (p .current) p E N st tt) (λ f q E M st w. record { done = kept-all b M }))
     sound enterLoop p E N b R st w = record { done = (kept-all b N, st, w) }
     sound leaveLoop p E N b R st w = record { done = (kept-all b N, st, w) }
+    sound giveBack p E N b R st w = record { done = (kept-all b N, st, w) }
     sound (insideLoop found missing) p E N b R st w = done-either b R N (eqb (p .loops) 0) _ _ (sound missing p E N b R st (w .1)) (sound found p E N b R st (w .0))
     sound (inFunction name m) p E N b R st w = done-restored b R N p (run T low m (looped p 0) E N) (sound m (looped p 0) E N b R st w)
     sound (down k) p E N b R st w = done-down b (sortOf k) (tightFrom k) R (p .nodes) (p .current) N (low k p E N) st (h k p E N (st .fits) (st .cursor)) w

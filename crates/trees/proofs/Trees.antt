@@ -79,9 +79,9 @@ statements-tree (suc f) T first last p E N st s = end-tree T (eqb (kindAt T (p .
     statements-tree f T (firstOf first (n .node)) (n .node) q E (linked M last (n .node)) (d .done .1) (d .done .2))
 
 -- the kept nodes of every parsing are well-formed trees, whatever the tokens and however long the tables
-pub parsed-tree : (T : List ℕ) (errors : ℕ) (E N : List ℕ) → Whole T (parsed T errors E N)
+pub parsed-tree : (rule : ℕ) (T : List ℕ) (errors : ℕ) (E N : List ℕ) → Whole T (parsed rule T errors E N)
 unfolding parsed
-parsed-tree T errors E N = statements-tree (suc (count T)) T 0 0 (freshState errors) E N (record { low = omega arith; fits = omega arith; cursor = omega arith; forest = forest-none T 0 N }) (inl (refl, refl))
+parsed-tree rule T errors E N = statements-tree (suc (count T)) T 0 0 (freshState rule errors) E N (record { low = omega arith; fits = omega arith; cursor = omega arith; forest = forest-none T 0 N }) (inl (refl, refl))
 
 -- ---- what that says of each child and each member of its list
 abbrev Sound : List ℕ → ℕ → Column → ℕ → Type 0

@@ -8,6 +8,7 @@ use Prim.Native.Nat.{ℕ, zero, suc, _+_, _-_, _≤_}
 use native.Mathlib.Omega.{arith}
 use lib.Dec.{leb, ltb, eqb}
 use Rattle.token.specs.Kind.{Newline, RightParen, RightBrace}
+use Rattle.rules.proofs.Laws.{behind-most}
 use Rattle.records.specs.declared.Node as rows
 use Rattle.parser.specs.declared.State.{State}
 use Rattle.parser.specs.declared.Form.{Form}
@@ -18,7 +19,7 @@ use Rattle.parser.specs.declared.Seen.{Seen}
 use Rattle.parser.specs.declared.Seen.the-variants.{At, Nothing}
 use Rattle.parser.specs.Tokens.{kindAt, matchesAt}
 use Rattle.parser.specs.Tables.{Reply, reply, moved, looped, pushNode, pushError, ifSeen, andThen, consumeAt, requireAt}
-use Rattle.parser.specs.Programs.{Reader, Which, Declaration, Assignment, Operand, Prog, give, stop, _>>=_, _>>_, look, check, atEnd, previous, node, link, fail, failAt, consume, require, enterLoop, leaveLoop, insideLoop, inFunction, down, either, restored, raised, run}
+use Rattle.parser.specs.Programs.{Reader, Which, Declaration, Assignment, Operand, Prog, give, stop, _>>=_, _>>_, look, check, atEnd, previous, node, link, fail, failAt, consume, require, enterLoop, leaveLoop, giveBack, insideLoop, inFunction, down, either, restored, raised, run}
 use Rattle.parser.specs.Grammar.{firstOf, property, when, assigned, Level, levels, fuel, blockFrom, block, expressionStmt, parametersFrom, parameters, functionBody, fnStmt, fnExpr, methodsFrom, class, letStmt, namesFrom, enhancedFor, classicFor, forLoop, tryCatch, elifsFrom, elseFrom, ifStmt, ret, brk, cont, whileStmt, statement, declaration, argumentsFrom, arguments, list, dictElementsFrom, dictionary, closed, access, superExpr, primary, finishCall, callFrom, call, unary, lookMany, binaryFrom, binary, assignment, body, lower}
 use Rattle.parser.specs.Whole.{topLevel}
 use Rattle.parser.proofs.Push.{push-node, push-error}
@@ -48,6 +49,7 @@ Calm z (consume kind message) = Unit {0}
 Calm z (require kind message) = Unit {0}
 Calm z enterLoop = 1 ≤ z
 Calm z leaveLoop = Unit {0}
+Calm z giveBack = Unit {0}
 Calm z (insideLoop found missing) = Calm z found × Calm z missing
 Calm z (inFunction name m) = Calm 0 m
 Calm z (down w) = Unit {0}
@@ -117,7 +119,7 @@ module _ (T : List ℕ) where
 
   enhanced-calm : (z : ℕ) → (keyword : ℕ) → Calm z (enhancedFor T keyword)
   unfolding enhancedFor
-  enhanced-calm z keyword = (names-from-calm z (fuel T) 0 0, λ ids. (tt, (tt, λ v. (tt, λ s. tt))))
+  enhanced-calm z keyword = (names-from-calm z (fuel T) 0 0, λ ids. (tt, (tt, λ v. (tt, λ s. (tt, tt)))))
 
   classic-calm : (z : ℕ) → (keyword : ℕ) → Calm z (classicFor T keyword)
   unfolding classicFor
@@ -333,6 +335,7 @@ module _ (T : List ℕ) (low : Which → Reader) (h : (w : Which) → MovesOn T 
   run-low (require kind message) z c p E N l = low-require T kind message p E N (omega arith)
   run-low enterLoop z c p E N l = let u = raised-most (p .loops) in record { low = omega arith }
   run-low leaveLoop z c p E N l = record { low = omega arith }
+  run-low giveBack z c p E N l = let u = behind-most (p .rule) (p .loops) in record { low = omega arith }
   run-low (insideLoop found missing) z c p E N l = low-either (eqb (p .loops) 0) _ _ (run-low missing z (c .1) p E N l) (run-low found z (c .0) p E N l)
   run-low (inFunction name m) z c p E N l = low-restored p _ (omega arith) (stays T low h m (p .current) (p .current) (Unit {0}) (looped p 0) E N (omega arith) (omega arith) tt)
   run-low (down w) z c p E N l = g w p E N (omega arith)

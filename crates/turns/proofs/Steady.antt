@@ -1,4 +1,4 @@
--- No read answers 18 on the way: a parser that fits its tables, with a loop count that is not over its cursor, goes on to one that does, or to the final answer; and that comes after as many
+-- No read answers 18 or 13 on the way: a parser that fits its tables, with a loop count that is not over its cursor, goes on to one that does, or to the final answer; and that comes after as many
 -- reads as there are tokens.
 -- Assumes nothing.
 use mathlib.Core.Path.{_≡_, refl, sym, subst}
@@ -9,6 +9,7 @@ use native.Mathlib.Omega.{arith}
 use lib.Dec.{eqb}
 use borrow.Author.Tests.{eqb-true, lt-ltb, le-leb}
 use Rattle.token.specs.Kind.{Newline}
+use Rattle.rules.specs.Rules.{known}
 use Rattle.records.specs.Table.{room, linked, tokenWidth, errorWidth, nodeWidth}
 use Rattle.records.proofs.Room.{room-length}
 use Rattle.records.proofs.Rest.{linked-length}
@@ -36,6 +37,7 @@ use Rattle.turns.proofs.Loops.{Low, top-low}
 
 -- what a call leaves where a token before EOF is left to be read
 pub record Fit (T E N : List ℕ) (p : Parser) : Type 0 where
+  pub rule : known (p .rule) ≡ true
   pub tokens : p .tokens ≤ room tokenWidth T
   pub errors : p .errors ≤ room errorWidth E
   pub nodes : p .nodes ≤ room nodeWidth N
@@ -99,6 +101,7 @@ module _ (T E N : List ℕ) (p : Parser) (fit : Fit T E N p) (q : state.State) (
       let i = subst In (sym t) (top-in T (stateOf p) E N (fit .nodes) (omega arith)) in
       let at : q .current ≤ end .0 = subst (λ (r : Reply). cursorOf r ≤ end .0) (sym t) (ahead-at (end .0) (top-ahead T T (end .0) (agree-self T (end .0) (end .2)) (stateOf p) E N (omega arith))) in
       record {
+        rule = fit .rule;
         tokens = fit .tokens;
         errors = g .errors .within (fit .errors);
         nodes = subst (λ (m : ℕ). q .nodes ≤ m) (sym (room-length nodeWidth (linked N′ (p .last) (f .node)) N′ (linked-length N′ (p .last) (f .node)))) (g .nodes .within (fit .nodes));
@@ -118,7 +121,7 @@ one-not : _≡_ {A = ℕ} 1 0 → ⊥
 one-not h = omega (arith, h)
 
 marked-fit : (T E N : List ℕ) (p : Parser) → Fit T E N p → Fit T E N (markedAs 0 19 p)
-marked-fit T E N p f = record { tokens = f .tokens; errors = f .errors; nodes = f .nodes; last = f .last; loops = f .loops; cursor = f .cursor; eof = f .eof }
+marked-fit T E N p f = record { rule = f .rule; tokens = f .tokens; errors = f .errors; nodes = f .nodes; last = f .last; loops = f .loops; cursor = f .cursor; eof = f .eof }
 
 -- behind a statement, or before the first
 pub rest-steady : (b j : ℕ) (T : List ℕ) (p : Parser) (E N : List ℕ) → Fit T E N p → p .tokens ≤ b → j ≤ p .current → Steady b j (restOf T p E N)
@@ -147,7 +150,7 @@ one-steady b j T p E N f m l = go (eqb (kindAt T (p .current)) 0)
 -- a read keeps it so, and is further on
 pub next-steady : (b j : ℕ) (c : Called) → Steady b j c → Steady b (suc j) (next c)
 next-steady b j c (over _ z) = subst (Steady b (suc j)) (next-again (c .tokens) (c .errors) (c .nodes) (c .stepped .parser) z) (over _ z)
-next-steady b j _ (going p T E N z o f m l) = subst (Steady b (suc j)) (next-goes-on T E N p z (fitsIn T E N p) refl (fit-fits T E N p f)) (one-steady b j T p E N f m l)
+next-steady b j _ (going p T E N z o f m l) = subst (Steady b (suc j)) (next-goes-on T E N p z (fit-fits T E N p f) (f .rule)) (one-steady b j T p E N f m l)
 
 -- so are any number of reads
 pub reads-steady : (b k : ℕ) (c : Called) → Steady b 0 c → Steady b k (nexts k c)

@@ -6,23 +6,25 @@ use mathlib.Core.List.{List}
 use Prim.Native.Nat.{ℕ, zero, suc, _-_, _≤_, _<_}
 use native.Mathlib.Omega.{arith}
 use lib.Dec.{eqb}
+use Rattle.rules.specs.Rules.{known}
 use Rattle.records.specs.Table.{linked, zeroed, nodeWidth}
 use Rattle.parser.specs.declared.Got.the-variants.{Node, Stop}
 use Rattle.parser.specs.Tokens.{count, kindAt}
 use Rattle.parser.specs.Tables.{Reply, reply}
 use Rattle.parser.specs.Grammar.{firstOf}
 use Rattle.parser.specs.Whole.{Parsed, ends, topLevel, statements, parsed}
+use Rattle.parsing.proofs.Rule.{Ruled, top-ruled}
 use Rattle.statements.proofs.TopLevel.{at-end, stops, goes-on, statement-past}
 use Rattle.entry.specs.declared.Answer.{Answer}
-use Rattle.whole.specs.Ways.{isFinal}
-use Rattle.whole.proofs.Ways.{reading-outcome}
+use Rattle.whole.specs.Ends.{isFinal}
+use Rattle.whole.proofs.Ends.{reading-outcome, unruled-only}
 use Rattle.entry.specs.Entry.{Entered, entered}
-use Rattle.entry.specs.Reading.{Reading, joined, readBy, reading, Answers}
+use Rattle.entry.specs.Reading.{Reading, joined, readBy, readAfter, reading, Answers}
 use Rattle.host.specs.declared.Parser.{Parser}
 use Rattle.host.specs.Fits.{fitsIn}
 use Rattle.host.specs.Kept.{markedAs, fresh, stateOf, behind, stoppedAt}
-use Rattle.steps.specs.Steps.{Called, left, held, leaving, final, pickCall, restOf, begunBy, begun, afterOne, oneOf, nextOf, next, nexts}
-use Rattle.steps.proofs.Cases.{next-again, next-refuses, next-goes-on}
+use Rattle.steps.specs.Steps.{Called, left, held, leaving, final, pickCall, restOf, begunBy, begun, refusedAs, afterOne, oneOf, nextOf, next, nexts}
+use Rattle.steps.proofs.Cases.{begun-known, next-again, next-refuses, next-unruled, next-goes-on}
 
 -- how a call stands to the whole reading R: it gave the final answer, and all is as R has it; or the statements that are left make R, with fuel for a turn
 -- for each token that is left
@@ -78,9 +80,11 @@ module _ (R : Reading) (T : List ℕ) (p : Parser) (E N : List ℕ) (f : ℕ) (e
       let below : p .current < count T = g .0 in
       let moved : p .current < q .current = g .1 in
       let z : f ≡ suc (f - 1) = less f (omega (arith, below, enough)) in
+      let r : q .rule ≡ p .rule = subst (Ruled (p .rule)) (sym t) (top-ruled T (stateOf p) E N) .rule-is in
       rests R T (behind p q (n .node)) E′ (linked N′ (p .last) (n .node)) (f - 1) (omega (arith, below, moved, enough))
       (e ∙ ap (λ (x : Parsed). joined (p .tokens) T x) (goes-on T f (p .first) (p .last) (stateOf p) E N q (Node n) E′ N′ h t n refl)
-      ∙ ap (λ (i : ℕ). joined (p .tokens) T (statements i T (firstOf (p .first) (n .node)) (n .node) q E′ (linked N′ (p .last) (n .node)))) z)
+      ∙ ap (λ (i : ℕ). joined (p .tokens) T (statements i T (firstOf (p .first) (n .node)) (n .node) q E′ (linked N′ (p .last) (n .node)))) z
+      ∙ ap (λ (x : ℕ). joined (p .tokens) T (statements (suc (f - 1)) T (firstOf (p .first) (n .node)) (n .node) (record { rule = x; current = q .current; errors = q .errors; nodes = q .nodes; loops = q .loops }) E′ (linked N′ (p .last) (n .node)))) r)
 
   -- a statement, or the end
   one-by : (b : Bool) → eqb (kindAt T (p .current)) 0 ≡ b → Stands R (oneOf T p E N)
@@ -88,27 +92,30 @@ module _ (R : Reading) (T : List ℕ) (p : Parser) (E N : List ℕ) (f : ℕ) (e
   one-by true h = subst (λ (b : Bool). Stands R (pickCall b (λ _. final 0 p T E N) λ _. afterOne T p (topLevel T (stateOf p) E N))) (sym h) (at-its-end R T p E N f enough e h)
   one-by false h = subst (λ (b : Bool). Stands R (pickCall b (λ _. final 0 p T E N) λ _. afterOne T p (topLevel T (stateOf p) E N))) (sym h) (came h (topLevel T (stateOf p) E N) refl)
 
-  -- the test
-  next-by : p .ended ≡ 0 → (b : Bool) → fitsIn T E N p ≡ b → Stands R (nextOf T E N p)
-  next-by z true h = subst (Stands R) (next-goes-on T E N p z (fitsIn T E N p) refl h) (one-by (eqb (kindAt T (p .current)) 0) refl)
-  next-by z false h = subst (Stands R) (next-refuses T E N p z (fitsIn T E N p) refl h) (on _ p T E N f z enough e)
+  -- the two tests
+  next-by : p .ended ≡ 0 → (b : Bool) → fitsIn T E N p ≡ b → (k : Bool) → known (p .rule) ≡ k → Stands R (nextOf T E N p)
+  next-by z true h true k = subst (Stands R) (next-goes-on T E N p z h k) (one-by (eqb (kindAt T (p .current)) 0) refl)
+  next-by z true h false k = subst (Stands R) (next-unruled T E N p z h k (refusedAs 13 p) refl) (on _ p T E N f z enough e)
+  next-by z false h x k = subst (Stands R) (next-refuses T E N p z h (refusedAs 18 p) refl) (on _ p T E N f z enough e)
 
 -- a read keeps it so
 next-stands : (R : Reading) (c : Called) → Stands R c → Stands R (next c)
 next-stands R _ (done p T E N z a) = subst (Stands R) (next-again T E N p z) (done p T E N z a)
-next-stands R _ (on r p T E N f z enough e) = next-by R T p E N f enough e z (fitsIn T E N p) refl
+next-stands R _ (on r p T E N f z enough e) = next-by R T p E N f enough e z (fitsIn T E N p) refl (known (p .rule)) refl
 
 -- after lexing, by its test
-begin-stands : (p : Parser) (d : Entered) (x : Bool) → Stands (readBy x d) (begunBy x p d)
+begin-stands : (p : Parser) (d : Entered) (x : Bool) → Stands (readBy x (p .rule) d) (begunBy x p d)
 unfolding parsed
 begin-stands p d true = rests _ (d .tokens) (fresh p (d .tokenCount) (d .errorCount)) (d .errors) (d .nodes) (count (d .tokens)) (omega arith) refl
 begin-stands p d false =
     done (markedAs 1 (d .outcome) (fresh p (d .tokenCount) (d .errorCount))) (d .tokens) (d .errors) (d .nodes) one-not
     (record { outcome-is = refl; tokens-are = refl; errors-are = refl; nodes-are = refl; first-is = refl; token-table = refl; error-table = refl; node-table = refl })
 
-begun-stands : (s t e n : List ℕ) (p : Parser) → Stands (reading (p .way) s t e n) (begun s t e n p)
-unfolding begun reading
-begun-stands s t e n p = begin-stands p (entered (p .way) s t e n) (eqb (entered (p .way) s t e n .outcome) 0)
+begun-stands : (s t e n : List ℕ) (p : Parser) → known (p .rule) ≡ true → Stands (reading (p .rule) (p .way) s t e n) (begun s t e n p)
+unfolding reading
+begun-stands s t e n p k =
+    let d = entered (p .rule) (p .way) s t e n in
+    subst (Stands (readAfter (p .rule) d)) (begun-known s t e n p k) (begin-stands p d (eqb (d .outcome) 0))
 
 reads-stand : (R : Reading) (k : ℕ) (c : Called) → Stands R c → Stands R (nexts k c)
 unfolding nexts
@@ -124,23 +131,26 @@ final-again : (R : Reading) (c : Called) → Stands R c → (c .stepped .parser 
 final-again R _ (done p T E N z a) h = sym (next-again T E N p z)
 final-again R _ (on r p T E N f z enough e) h = elim (h z) [ ]
 
-module _ (s t e n : List ℕ) (p : Parser) (k : ℕ) where
-  -- begin with any parser and k reads, each over what the last call left
+module _ (s t e n : List ℕ) (p : Parser) (r : known (p .rule) ≡ true) (k : ℕ) where
+  -- begin with any parser whose rule is known, and k reads, each over what the last call left
   abbrev called : Called
   called = nexts k (begun s t e n p)
 
-  -- the whole reading on that parser's way
+  -- the whole reading by that parser's rule and on its way
   abbrev whole : Reading
-  whole = reading (p .way) s t e n
+  whole = reading (p .rule) (p .way) s t e n
 
   -- where they give the final answer, it and the tables are what the whole reading yields
   pub yields-whole : (called .stepped .parser .ended ≡ 0 → ⊥) → Answers whole (called .stepped .answer) (called .tokens) (called .errors) (called .nodes)
-  yields-whole = final-answers whole called (reads-stand whole k (begun s t e n p) (begun-stands s t e n p))
+  yields-whole = final-answers whole called (reads-stand whole k (begun s t e n p) (begun-stands s t e n p r))
 
   -- a read after that returns the same and changes nothing
   pub yields-again : (called .stepped .parser .ended ≡ 0 → ⊥) → next called ≡ called
-  yields-again = final-again whole called (reads-stand whole k (begun s t e n p) (begun-stands s t e n p))
+  yields-again = final-again whole called (reads-stand whole k (begun s t e n p) (begun-stands s t e n p r))
 
-  -- and the final answer is one of 0 to 8, or 11
+  -- and the final answer is one of 0 to 8, or 11: not 13, for the rule is known
   pub final-number : (called .stepped .parser .ended ≡ 0 → ⊥) → isFinal (called .stepped .answer .outcome) ≡ true
-  final-number z = ap isFinal (yields-whole z .outcome-is) ∙ reading-outcome s t e n (p .way)
+  final-number z = ap isFinal (yields-whole z .outcome-is) ∙ reading-outcome (p .rule) (p .way) s t e n
+
+  pub never-unruled : (called .stepped .parser .ended ≡ 0 → ⊥) → called .stepped .answer .outcome ≡ 13 → ⊥
+  never-unruled z h = let w = unruled-only (p .rule) (p .way) s t e n (sym (yields-whole z .outcome-is) ∙ h) in let y : _≡_ {A = ℕ} 0 1 = cc in omega arith

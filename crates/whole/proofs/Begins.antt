@@ -22,22 +22,22 @@ use Rattle.whole.proofs.Rooms.{lexed-rooms}
 use Rattle.whole.proofs.Sizes.{over-keeps}
 use Rattle.whole.proofs.Places.{front-word}
 
-module _ (s t e n : List ℕ) where
+module _ (rule : ℕ) (s t e n : List ℕ) where
   abbrev d : Result
-  d = lexedOf s (room tokenWidth t) (room errorWidth e)
+  d = lexedOf rule s (room tokenWidth t) (room errorWidth e)
 
   abbrev T : List ℕ
   T = over (d .tokens) t
 
   b : Begun s d
-  b = lexing-begins s (room tokenWidth t) (room errorWidth e)
+  b = lexing-begins rule s (room tokenWidth t) (room errorWidth e)
 
   -- a word of a kept token, in the table and among the words that are kept
   word : (i k : ℕ) → i < d .tokenCount → k < tokenWidth → field tokenWidth k T i ≡ getD (d .tokens) (tokenWidth * i + k) 0
   word i k h l =
       let c : length (d .tokens) ≡ tokenWidth * d .tokenCount = rows-length tokenWords (Begins s) tokenWidth (λ x. refl) (d .tokens) (d .tokenCount) (b .tokens) in
-      let r = lexed-rooms s (room tokenWidth t) (room errorWidth e) .0 in
-      let q : room tokenWidth T ≡ room tokenWidth t = room-length tokenWidth T t (over-keeps (d .tokens) t (tokens-within s t (room errorWidth e))) in
+      let r = lexed-rooms rule s (room tokenWidth t) (room errorWidth e) .0 in
+      let q : room tokenWidth T ≡ room tokenWidth t = room-length tokenWidth T t (over-keeps (d .tokens) t (tokens-within rule s t (room errorWidth e))) in
       front-word tokenWidth (d .tokens) t (d .tokenCount) i k c (omega arith) (omega (arith, h, r, q))
 
   -- a reading that has these tokens
@@ -55,11 +55,11 @@ module _ (s t e n : List ℕ) where
         omega (arith, x, y, z);
   }
 
-  after : (way : ℕ) (b : Bool) → TokensBegin s (readBy b (enteredAfter (onWay way d) t e n))
+  after : (way : ℕ) (b : Bool) → TokensBegin s (readBy b rule (enteredAfter (onWay way d) t e n))
   after way true = has _ refl refl
   after way false = has _ refl refl
 
 -- every token that a reading keeps, of any bytes into any tables
-pub reading-begins : (way : ℕ) (s t e n : List ℕ) → TokensBegin s (reading way s t e n)
+pub reading-begins : (rule way : ℕ) (s t e n : List ℕ) → TokensBegin s (reading rule way s t e n)
 unfolding reading
-reading-begins way s t e n = after s t e n way (eqb (entered way s t e n .outcome) 0)
+reading-begins rule way s t e n = after rule s t e n way (eqb (entered rule way s t e n .outcome) 0)

@@ -1,6 +1,6 @@
 pub mod Sizes
 pub mod Rooms
-pub mod Outcome
+pub mod Ends
 pub mod Ways
 pub mod Places
 pub mod Begins

@@ -1,15 +1,14 @@
 -- Every error that a reading keeps has a place in its source: the lexer's at a byte, the parser's at the start of a token, EOF's the source's end. Assumes nothing.
 use mathlib.Core.Path.{_≡_, refl, sym, ap, subst, _∙_}
-use mathlib.Core.Bool.{Bool, true, false, not}
+use mathlib.Core.Bool.{Bool, true, false}
 use mathlib.Core.List.{List, _++_}
 use mathlib.Core.Logic.{⊎-elim}
 use Prim.Native.Nat.{ℕ, _+_, _*_, _≤_, _<_}
 use native.Mathlib.Omega.{arith}
 use borrow.Author.Tests.{eqb-true}
-use lib.Dec.{ltb, eqb}
+use lib.Dec.{eqb}
 use lib.ListN.{length, getD, drop, List·getD-append}
 use lib.Seq.{getD-take}
-use Rattle.text.specs.Text.{isText}
 use Rattle.records.specs.declared.TokenData.{TokenData}
 use Rattle.records.specs.Table.{room, field, tokenWidth, errorWidth}
 use Rattle.records.specs.Words.{tokenWords, errorWords}
@@ -17,10 +16,10 @@ use Rattle.records.specs.Rows.{Rows, none, more}
 use Rattle.records.proofs.Room.{room-length, lt-or-le}
 use Rattle.records.proofs.Field.{field-room, field-none, field-same}
 use Rattle.records.proofs.Rows.{rows-length, row-at}
-use Rattle.lexer.specs.Lex.{Result, refusal, pickResult, lexed, lexedOf}
+use Rattle.lexer.specs.Lex.{Result, lexed, lexedOf}
 use Rattle.lexing.specs.Kept.{Good, Placed, Ending, whole, short}
 use Rattle.lexing.proofs.Kept.{lexed-keeps}
-use Rattle.lexing.proofs.Answer.{errors-within}
+use Rattle.lexing.proofs.Answer.{entry, errors-within}
 use Rattle.parser.specs.Tokens.{startAt}
 use Rattle.parsing.proofs.Frame.{parsed-errors-kept}
 use Rattle.parsing.proofs.Places.{parsed-about}
@@ -52,14 +51,10 @@ ending-starts n r (whole ws m d o rows le eof is count) =
     subst (λ (l : List ℕ). Rows tokenWords (Starts n) l (r .tokenCount)) (sym is) (subst (Rows tokenWords (Starts n) (ws ++ tokenWords d)) (sym count) x)
 ending-starts n r (short ne rows le) = good-starts n (r .tokens) (r .tokenCount) rows
 
-inside : (s : List ℕ) (a b : ℕ) → Inside (length s) (lexedOf s a b)
-unfolding lexedOf
-inside s a b = at (ltb 65535 (length s)) (isText s)
-  where
-    at : (x y : Bool) → Inside (length s) (pickResult x (refusal 4) (pickResult (not y) (refusal 3) (lexed s a b)))
-    at true y = record { tokens = none; errors = none }
-    at false false = record { tokens = none; errors = none }
-    at false true = let k = lexed-keeps s a b in record { tokens = ending-starts (length s) (lexed s a b) (k .ending); errors = k .errors }
+inside : (rule : ℕ) (s : List ℕ) (a b : ℕ) → Inside (length s) (lexedOf rule s a b)
+inside rule s a b =
+    let k = lexed-keeps rule s a b in
+    entry (Inside (length s)) rule s a b (λ o. record { tokens = none; errors = none }) (record { tokens = ending-starts (length s) (lexed rule s a b) (k .ending); errors = k .errors })
 
 -- ---- in a table whose front is rewritten
 pub front-word : (w : ℕ) (ws t : List ℕ) (n i k : ℕ) → length ws ≡ w * n → w * i + k < w * n → i < room w (over ws t) → field w k (over ws t) i ≡ getD ws (w * i + k) 0
@@ -80,10 +75,10 @@ start-inside n m ws t rows i h =
     (lt-or-le i (room tokenWidth (over ws t)))
 
 -- ---- what a lexing came to is parsed, or is the answer
-module _ (way : ℕ) (s t e n : List ℕ) where
+module _ (rule way : ℕ) (s t e n : List ℕ) where
   -- what a lexing comes to on the way
   abbrev d : Result
-  d = onWay way (lexedOf s (room tokenWidth t) (room errorWidth e))
+  d = onWay way (lexedOf rule s (room tokenWidth t) (room errorWidth e))
 
   abbrev T : List ℕ
   T = over (d .tokens) t
@@ -95,10 +90,10 @@ module _ (way : ℕ) (s t e n : List ℕ) where
   N = nodesAfter (d .outcome) n
 
   w : Well d
-  w = well-on way s (room tokenWidth t) (room errorWidth e)
+  w = well-on rule way s (room tokenWidth t) (room errorWidth e)
 
-  i : Inside (length s) (lexedOf s (room tokenWidth t) (room errorWidth e))
-  i = inside s (room tokenWidth t) (room errorWidth e)
+  i : Inside (length s) (lexedOf rule s (room tokenWidth t) (room errorWidth e))
+  i = inside rule s (room tokenWidth t) (room errorWidth e)
 
   -- an error of lexing, in any error table that keeps those
   lexing-place : (r : Reading) (k : ℕ) → k < d .errorCount → k < room errorWidth E → ((j : ℕ) → j < 3 → field errorWidth j (r .errors) k ≡ field errorWidth j E k) → Place (length s) r k
@@ -115,19 +110,19 @@ module _ (way : ℕ) (s t e n : List ℕ) where
   -- the error table has room for them
   lexing-room : (k : ℕ) → k < d .errorCount → k < room errorWidth E
   lexing-room k h =
-      let r = lexed-rooms s (room tokenWidth t) (room errorWidth e) .1 in
-      let q : room errorWidth E ≡ room errorWidth e = room-length errorWidth E e (over-keeps (d .errors) e (errors-within s e (room tokenWidth t))) in
+      let r = lexed-rooms rule s (room tokenWidth t) (room errorWidth e) .1 in
+      let q : room errorWidth E ≡ room errorWidth e = room-length errorWidth E e (over-keeps (d .errors) e (errors-within rule s e (room tokenWidth t))) in
       omega (arith, h, r, q)
 
-  place : (k : ℕ) → k < readAfter (enteredAfter d t e n) .errorCount → Place (length s) (readAfter (enteredAfter d t e n)) k
+  place : (k : ℕ) → k < readAfter rule (enteredAfter d t e n) .errorCount → Place (length s) (readAfter rule (enteredAfter d t e n)) k
   place = at (eqb (d .outcome) 0) refl
     where
       r : Bool → Reading
-      r x = readBy x (enteredAfter d t e n)
+      r x = readBy x rule (enteredAfter d t e n)
 
       at : (x : Bool) → eqb (d .outcome) 0 ≡ x → (k : ℕ) → k < r x .errorCount → Place (length s) (r x) k
       at true o k h =
-          let p = parsed-errors-kept T (d .errorCount) E N in
+          let p = parsed-errors-kept rule T (d .errorCount) E N in
           let z = w .eof (eqb-true (d .outcome) 0 o) in
           let m = z .0 in
           let l : length (d .tokens) ≡ tokenWidth * (m + 1) = w .tokens-long ∙ ap (λ (c : ℕ). tokenWidth * c) (z .1) in
@@ -141,7 +136,7 @@ module _ (way : ℕ) (s t e n : List ℕ) where
           ∙ getD-take (errorWidth * d .errorCount) E (errorWidth * k + j) 0 (omega arith)))
           (λ b.
           let f = over-agree (d .tokens) t t m refl l (z .2) .end in
-          let y = parsed-about T m f (d .errorCount) E N k b h in
+          let y = parsed-about rule T m f (d .errorCount) E N k b h in
           let c = start-inside (length s) m (d .tokens) t rows (y .token) (y .up-to) in
           let q = y .pos-is in
           parsers (record { last = m; last-is = z .1; eof = f; about = y; inside = omega (arith, q, c) }))
@@ -149,13 +144,13 @@ module _ (way : ℕ) (s t e n : List ℕ) where
       at false o k h = lexing-place (r false) k h (lexing-room k h) λ j c. refl
 
 -- every error that a reading keeps has its place
-pub reading-places : (way : ℕ) (s t e n : List ℕ) (k : ℕ) → k < reading way s t e n .errorCount → Place (length s) (reading way s t e n) k
+pub reading-places : (rule way : ℕ) (s t e n : List ℕ) (k : ℕ) → k < reading rule way s t e n .errorCount → Place (length s) (reading rule way s t e n) k
 unfolding reading
-reading-places way s t e n k h = place way s t e n k h
+reading-places rule way s t e n k h = place rule way s t e n k h
 
 -- so that its pos is at most the source's length
-pub reading-inside : (way : ℕ) (s t e n : List ℕ) (k : ℕ) → k < reading way s t e n .errorCount → field errorWidth 2 (reading way s t e n .errors) k ≤ length s
-reading-inside way s t e n k h = of (reading way s t e n) (reading-places way s t e n k h)
+pub reading-inside : (rule way : ℕ) (s t e n : List ℕ) (k : ℕ) → k < reading rule way s t e n .errorCount → field errorWidth 2 (reading rule way s t e n .errors) k ≤ length s
+reading-inside rule way s t e n k h = of (reading rule way s t e n) (reading-places rule way s t e n k h)
   where
     of : (r : Reading) → Place (length s) r k → field errorWidth 2 (r .errors) k ≤ length s
     of r (lexers x) = let b = x .inside in omega arith

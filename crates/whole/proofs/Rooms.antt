@@ -1,17 +1,16 @@
 -- The counts of a reading keep to the tables' rooms. Assumes nothing.
 use mathlib.Core.Path.{_≡_, sym, subst, _∙_}
-use mathlib.Core.Bool.{Bool, true, false, not}
+use mathlib.Core.Bool.{Bool, true, false}
 use mathlib.Core.List.{List}
 use Prim.Native.Nat.{ℕ, _≤_}
 use native.Mathlib.Omega.{arith}
-use lib.Dec.{ltb, eqb}
+use lib.Dec.{eqb}
 use lib.ListN.{length}
-use Rattle.text.specs.Text.{isText}
 use Rattle.records.specs.Table.{room, tokenWidth, errorWidth, nodeWidth}
 use Rattle.records.proofs.Room.{room-length}
-use Rattle.lexer.specs.Lex.{Result, refusal, pickResult, lexed, lexedOf}
+use Rattle.lexer.specs.Lex.{Result, lexedOf}
 use Rattle.lexing.proofs.Kept.{lexed-keeps}
-use Rattle.lexing.proofs.Answer.{errors-within}
+use Rattle.lexing.proofs.Answer.{entry, errors-within}
 use Rattle.parser.specs.Whole.{parsed}
 use Rattle.parsing.proofs.Frame.{parsed-errors-kept, parsed-nodes-within}
 use Rattle.entry.specs.Ways.{onWay}
@@ -21,16 +20,12 @@ use Rattle.whole.specs.Sizes.{Within}
 use Rattle.whole.proofs.Sizes.{over-keeps, after-long}
 
 -- of a lexing
-pub lexed-rooms : (s : List ℕ) (a b : ℕ) → (lexedOf s a b .tokenCount ≤ a) × (lexedOf s a b .errorCount ≤ b)
-unfolding lexedOf
-lexed-rooms s a b = at (ltb 65535 (length s)) (isText s)
-  where
-    at : (x y : Bool) → let r = pickResult x (refusal 4) (pickResult (not y) (refusal 3) (lexed s a b)) in (r .tokenCount ≤ a) × (r .errorCount ≤ b)
-    at true y = (omega arith, omega arith)
-    at false false = (omega arith, omega arith)
-    at false true = let k = lexed-keeps s a b in (k .token-room, k .error-room)
+pub lexed-rooms : (rule : ℕ) (s : List ℕ) (a b : ℕ) → (lexedOf rule s a b .tokenCount ≤ a) × (lexedOf rule s a b .errorCount ≤ b)
+lexed-rooms rule s a b =
+    let k = lexed-keeps rule s a b in
+    entry (λ r. (r .tokenCount ≤ a) × (r .errorCount ≤ b)) rule s a b (λ o. (omega arith, omega arith)) (k .token-room, k .error-room)
 
-module _ (d : Result) (t e n : List ℕ) (ht : d .tokenCount ≤ room tokenWidth t) (he : d .errorCount ≤ room errorWidth e) (el : length (over (d .errors) e) ≡ length e) where
+module _ (rule : ℕ) (d : Result) (t e n : List ℕ) (ht : d .tokenCount ≤ room tokenWidth t) (he : d .errorCount ≤ room errorWidth e) (el : length (over (d .errors) e) ≡ length e) where
   abbrev T : List ℕ
   T = over (d .tokens) t
 
@@ -40,28 +35,28 @@ module _ (d : Result) (t e n : List ℕ) (ht : d .tokenCount ≤ room tokenWidth
   abbrev N : List ℕ
   N = nodesAfter (d .outcome) n
 
-  after-rooms : Within t e n (readAfter (enteredAfter d t e n))
+  after-rooms : Within t e n (readAfter rule (enteredAfter d t e n))
   after-rooms = at (eqb (d .outcome) 0)
     where
-      at : (x : Bool) → Within t e n (readBy x (enteredAfter d t e n))
+      at : (x : Bool) → Within t e n (readBy x rule (enteredAfter d t e n))
       at true =
-          let k = parsed-errors-kept T (d .errorCount) E N in
-          let r = parsed T (d .errorCount) E N in
+          let k = parsed-errors-kept rule T (d .errorCount) E N in
+          let r = parsed rule T (d .errorCount) E N in
           let p : room errorWidth E ≡ room errorWidth e = room-length errorWidth E e el in
           let q : room errorWidth (r .errors) ≡ room errorWidth e = room-length errorWidth (r .errors) e (k .long ∙ el) in
           record {
             tokens-fit = ht;
             errors-fit = subst (λ (m : ℕ). r .errorCount ≤ m) q (k .within (subst (λ (m : ℕ). d .errorCount ≤ m) (sym p) he));
-            nodes-fit = subst (λ (m : ℕ). r .nodeCount ≤ m) (room-length nodeWidth N n (after-long (d .outcome) n)) (parsed-nodes-within T (d .errorCount) E N);
+            nodes-fit = subst (λ (m : ℕ). r .nodeCount ≤ m) (room-length nodeWidth N n (after-long (d .outcome) n)) (parsed-nodes-within rule T (d .errorCount) E N);
           }
       at false = record { tokens-fit = ht; errors-fit = he; nodes-fit = omega arith }
 
 -- the counts of a reading keep to the rooms
-pub reading-rooms : (way : ℕ) (s t e n : List ℕ) → Within t e n (reading way s t e n)
+pub reading-rooms : (rule way : ℕ) (s t e n : List ℕ) → Within t e n (reading rule way s t e n)
 unfolding reading
-reading-rooms way s t e n =
+reading-rooms rule way s t e n =
     let a = room tokenWidth t in
     let b = room errorWidth e in
-    let d = lexedOf s a b in
-    let r = lexed-rooms s a b in
-    after-rooms (onWay way d) t e n (r .0) (r .1) (over-keeps (d .errors) e (errors-within s e a))
+    let d = lexedOf rule s a b in
+    let r = lexed-rooms rule s a b in
+    after-rooms rule (onWay way d) t e n (r .0) (r .1) (over-keeps (d .errors) e (errors-within rule s e a))

@@ -1,28 +1,28 @@
 -- The whole reading depends on the sizes of the tables and not on what they hold; what it does not keep it leaves as it was. Assumes nothing.
 use mathlib.Core.Path.{_≡_, refl, sym, ap, subst, _∙_}
-use mathlib.Core.Bool.{Bool, true, false, cond, not, _&&_, _||_}
-use mathlib.Core.List.{List, [], _∷_, _++_}
+use mathlib.Core.Bool.{Bool, true, false, cond, not, _||_}
+use mathlib.Core.List.{List, [], _++_}
 use mathlib.Core.Logic.{⊎-elim}
 use Prim.Native.Nat.{ℕ, _+_, _-_, _*_, _≤_, _<_}
 use native.Mathlib.Omega.{arith}
 use borrow.Author.Tests.{eqb-true, le-ltb}
-use lib.Dec.{ltb, eqb}
+use lib.Dec.{eqb}
 use lib.ListN.{length, getD, take, drop, replicate, length-append, length-drop, List·getD-append}
 use lib.Seq.{take-append-seam, drop-append-add, drop-drop, getD-append-add}
 use Rattle.text.specs.Text.{isText}
+use Rattle.rules.specs.Rules.{known}
 use Rattle.records.specs.Table.{room, field, zeroed, tokenWidth, errorWidth, nodeWidth}
 use Rattle.records.specs.Words.{tokenWords, errorWords}
 use Rattle.records.proofs.Room.{room-length, lt-or-le}
 use Rattle.records.proofs.Field.{field-room, field-none, field-same}
 use Rattle.records.proofs.Rest.{zeroed-length}
 use Rattle.records.proofs.Rows.{rows-length}
-use Rattle.items.specs.declared.Item.{Item}
-use Rattle.items.specs.declared.Item.the-variants.{Space, Comment, Name, Text, Number, Mark, Wrong}
-use Rattle.items.specs.Items.{items}
-use Rattle.lexer.specs.Lex.{State, Result, Onward, go, stop, pickOnward, kept, andThen, token, step, closing, emit, fresh, noValue, refusal, pickResult, lexed, lexedOf}
+use Rattle.lexer.specs.Lex.{Result, refusal, lexed, lexedOf}
+use Rattle.lexing.specs.Ends.{Lexed, ended, cut, token-room, error-room}
+use Rattle.lexing.proofs.Ends.{lexed-ends}
 use Rattle.lexing.specs.Kept.{Good, Placed, Ending, whole, short}
 use Rattle.lexing.proofs.Kept.{lexed-keeps}
-use Rattle.lexing.proofs.Answer.{tokens-within, errors-within}
+use Rattle.lexing.proofs.Answer.{tests, tokens-within, errors-within}
 use Rattle.parser.specs.Tokens.{kindAt, startAt, lineAt}
 use Rattle.parser.specs.Whole.{Parsed, parsed}
 use Rattle.parsing.specs.Ahead.{Agree, isOutcome}
@@ -38,39 +38,15 @@ use Rattle.whole.specs.Sizes.{SameReading, Rest}
 true-false : {A : Type 0} → true ≡ false → A
 true-false e = let z : _≡_ {A = ℕ} 0 1 = cc in absurd (omega arith)
 
--- ---- a lexing of text that is not too long does not end with 3 or 4
--- where it stops, it is with another outcome
-abbrev Reads : Onward → Type 0
-Reads (go u) = Unit {0}
-Reads (stop o) = unread o ≡ false
-
-pick-read : (b : Bool) (x y : Onward) → Reads x → Reads y → Reads (pickOnward b x y)
-pick-read true x y g h = g
-pick-read false x y g h = h
-
-then-read : (x : Onward) (t : State) (k : State → Result) → Reads x → ((u : State) → unread (k u .outcome) ≡ false) → unread (andThen x t k .outcome) ≡ false
-then-read (go u) t k g h = h u
-then-read (stop o) t k g h = g
-
-module _ (a b : ℕ) where
-  step-read : (x : Item) (t : State) → Reads (step a b x t)
-  step-read Space t = tt
-  step-read (Comment n) t = tt
-  step-read (Name k n) t = pick-read (ltb (t .tokenCount) a) _ _ tt refl
-  step-read (Text n m l) t = pick-read (ltb (t .tokenCount) a) _ _ tt refl
-  step-read (Number x) t = pick-read (x .cut) _ _ refl (pick-read (ltb (t .tokenCount) a) _ _ tt refl)
-  step-read (Mark k n m) t = pick-read (ltb (t .tokenCount) a) _ _ tt refl
-  step-read (Wrong e n m) t = pick-read (ltb (t .errorCount) b) _ _ tt refl
-
-  emit-read : (xs : List Item) (t : State) → unread (emit a b xs t .outcome) ≡ false
-  emit-read [] t =
-      then-read (closing a b t) t (λ u. andThen (token a b 0 0 0 noValue u) u (kept 0))
-      (pick-read (ltb 0 (t .tokenCount) && not (eqb (t .last) 1)) _ _ (pick-read (ltb (t .tokenCount) a) _ _ tt refl) tt) λ u.
-      then-read (token a b 0 0 0 noValue u) u (kept 0) (pick-read (ltb (u .tokenCount) a) _ _ tt refl) λ v. refl
-  emit-read (x ∷ xs) t = then-read (step a b x t) t (emit a b xs) (step-read x t) (emit-read xs)
+-- ---- a lexing of text that is not too long, by a rule that is known, does not end with 3, 4 or 13
+lexed-read : (rule o : ℕ) → Lexed rule o → unread o ≡ false
+lexed-read rule _ ended = refl
+lexed-read rule _ (cut h) = refl
+lexed-read rule _ token-room = refl
+lexed-read rule _ error-room = refl
 
 -- ---- what is lexed
--- whole records; where the end is reached the last token is EOF; and after 3 and 4 none
+-- whole records; where the end is reached the last token is EOF; and after 3, 4 and 13 none
 pub record Well (r : Result) : Type 0 where
   pub tokens-long : length (r .tokens) ≡ tokenWidth * r .tokenCount
   pub errors-long : length (r .errors) ≡ errorWidth * r .errorCount
@@ -97,23 +73,18 @@ well-lexed n r u e (short ne rows le) =
 well-refusal : (o : ℕ) → (o ≡ 0 → ⊥) → Well (refusal o)
 well-refusal o h = record { tokens-long = refl; errors-long = refl; eof = λ z. absurd (h z); nothing = λ z. (refl, refl) }
 
-well : (s : List ℕ) (a b : ℕ) → Well (lexedOf s a b)
-unfolding lexedOf lexed
-well s a b = at (ltb 65535 (length s)) (isText s)
-  where
-    at : (x y : Bool) → Well (pickResult x (refusal 4) (pickResult (not y) (refusal 3) (lexed s a b)))
-    at true y = well-refusal 4 λ z. omega arith
-    at false false = well-refusal 3 λ z. omega arith
-    at false true =
-        let k = lexed-keeps s a b in
-        let r = lexed s a b in
-        well-lexed (length s) r (emit-read a b (items s 0) fresh) (rows-length errorWords (Placed (length s)) errorWidth (λ d. refl) (r .errors) (r .errorCount) (k .errors)) (k .ending)
+well : (rule : ℕ) (s : List ℕ) (a b : ℕ) → Well (lexedOf rule s a b)
+well rule s a b =
+    let k = lexed-keeps rule s a b in
+    let r = lexed rule s a b in
+    tests Well rule s a b (well-refusal 13 λ z. omega arith) (well-refusal 4 λ z. omega arith) (well-refusal 3 λ z. omega arith)
+    (well-lexed (length s) r (lexed-read rule _ (lexed-ends rule s a b)) (rows-length errorWords (Placed (length s)) errorWidth (λ d. refl) (r .errors) (r .errorCount) (k .errors)) (k .ending))
 
--- and so on either way
-pub well-on : (way : ℕ) (s : List ℕ) (a b : ℕ) → Well (onWay way (lexedOf s a b))
-well-on way s a b =
-    let r = lexedOf s a b in
-    let w = well s a b in
+-- and so on every way
+pub well-on : (rule way : ℕ) (s : List ℕ) (a b : ℕ) → Well (onWay way (lexedOf rule s a b))
+well-on rule way s a b =
+    let r = lexedOf rule s a b in
+    let w = well rule s a b in
     record {
       tokens-long = w .tokens-long;
       errors-long = w .errors-long;
@@ -168,7 +139,7 @@ after-long o n = at (eqb o 0 || unread o)
     at true = refl
     at false = zeroed-length nodeWidth n 0
 
--- after 3 and 4 it is as it was
+-- after 3, 4 and 13 it is as it was
 after-unread : (o : ℕ) (n : List ℕ) → unread o ≡ true → nodesAfter o n ≡ n
 after-unread o n u = ap (λ (b : Bool). cond (eqb o 0 || b) n (zeroed nodeWidth n 0)) u ∙ at (eqb o 0)
   where
@@ -180,9 +151,9 @@ after-unread o n u = ap (λ (b : Bool). cond (eqb o 0 || b) n (zeroed nodeWidth 
 after-zero : (o : ℕ) (n : List ℕ) → eqb o 0 ≡ false → unread o ≡ false → nodesAfter o n ≡ zeroed nodeWidth n 0
 after-zero o n z u = ap (λ (b : Bool). cond (b || unread o) n (zeroed nodeWidth n 0)) z ∙ ap (λ (b : Bool). cond b n (zeroed nodeWidth n 0)) u
 
-module _ (d : Result) (w : Well d) (t e n t′ e′ n′ : List ℕ) (tl : length t ≡ length t′) (el : length e ≡ length e′) (nl : length n ≡ length n′) where
+module _ (rule : ℕ) (d : Result) (w : Well d) (t e n t′ e′ n′ : List ℕ) (tl : length t ≡ length t′) (el : length e ≡ length e′) (nl : length n ≡ length n′) where
   joined-sizes : d .outcome ≡ 0
-      → SameParsed (parsed (over (d .tokens) t) (d .errorCount) (over (d .errors) e) (nodesAfter (d .outcome) n)) (parsed (over (d .tokens) t′) (d .errorCount) (over (d .errors) e′) (nodesAfter (d .outcome) n′))
+      → SameParsed (parsed rule (over (d .tokens) t) (d .errorCount) (over (d .errors) e) (nodesAfter (d .outcome) n)) (parsed rule (over (d .tokens) t′) (d .errorCount) (over (d .errors) e′) (nodesAfter (d .outcome) n′))
   joined-sizes z =
       let c = d .errorCount in
       let T = over (d .tokens) t in
@@ -193,8 +164,8 @@ module _ (d : Result) (w : Well d) (t e n t′ e′ n′ : List ℕ) (tl : lengt
       let N′ = nodesAfter (d .outcome) n′ in
       let x = w .eof z in
       let a : Agree (x .0) T T′ = over-agree (d .tokens) t t′ (x .0) tl (w .tokens-long ∙ ap (λ (k : ℕ). tokenWidth * k) (x .1)) (x .2) in
-      subst (λ (r : Parsed). SameParsed (parsed T c E N) r) (parsed-tokens T T′ (x .0) a c E′ N′)
-      (parsed-sizes T c E N E′ N′ (over-long (d .errors) e e′ el) (after-long (d .outcome) n ∙ nl ∙ sym (after-long (d .outcome) n′)) (over-take (errorWidth * c) (d .errors) e (w .errors-long) ∙ sym (over-take (errorWidth * c) (d .errors) e′ (w .errors-long))))
+      subst (λ (r : Parsed). SameParsed (parsed rule T c E N) r) (parsed-tokens T T′ (x .0) a rule c E′ N′)
+      (parsed-sizes rule T c E N E′ N′ (over-long (d .errors) e e′ el) (after-long (d .outcome) n ∙ nl ∙ sym (after-long (d .outcome) n′)) (over-take (errorWidth * c) (d .errors) e (w .errors-long) ∙ sym (over-take (errorWidth * c) (d .errors) e′ (w .errors-long))))
 
   tokens-same : take (tokenWidth * d .tokenCount) (over (d .tokens) t) ≡ take (tokenWidth * d .tokenCount) (over (d .tokens) t′)
   tokens-same = over-take (tokenWidth * d .tokenCount) (d .tokens) t (w .tokens-long) ∙ sym (over-take (tokenWidth * d .tokenCount) (d .tokens) t′ (w .tokens-long))
@@ -202,13 +173,13 @@ module _ (d : Result) (w : Well d) (t e n t′ e′ n′ : List ℕ) (tl : lengt
   errors-same : take (errorWidth * d .errorCount) (over (d .errors) e) ≡ take (errorWidth * d .errorCount) (over (d .errors) e′)
   errors-same = over-take (errorWidth * d .errorCount) (d .errors) e (w .errors-long) ∙ sym (over-take (errorWidth * d .errorCount) (d .errors) e′ (w .errors-long))
 
-  after-sizes : SameReading (readAfter (enteredAfter d t e n)) (readAfter (enteredAfter d t′ e′ n′))
+  after-sizes : SameReading (readAfter rule (enteredAfter d t e n)) (readAfter rule (enteredAfter d t′ e′ n′))
   after-sizes = at (eqb (d .outcome) 0) refl
     where
       at : (x : Bool) → eqb (d .outcome) 0 ≡ x
           → SameReading
-          (readBy x (enteredAfter d t e n))
-          (readBy x (enteredAfter d t′ e′ n′))
+          (readBy x rule (enteredAfter d t e n))
+          (readBy x rule (enteredAfter d t′ e′ n′))
       at true p =
           let h = joined-sizes (eqb-true (d .outcome) 0 p) in
           record { outcome = h .outcome; tokenCount = refl; errorCount = h .errorCount; nodeCount = h .nodeCount; first = h .first; tokens-kept = tokens-same; errors-kept = h .errors-same; nodes = λ u. h .nodes }
@@ -224,25 +195,29 @@ module _ (d : Result) (w : Well d) (t e n t′ e′ n′ : List ℕ) (tl : lengt
             nodes = λ u. after-zero (d .outcome) n p u ∙ zeroed-sizes n n′ nl ∙ sym (after-zero (d .outcome) n′ p u);
           }
 
--- two readings of one source, on the same way, into tables of the same sizes give the same answer and keep the same words
-pub reading-sizes : (way : ℕ) (s t e n t′ e′ n′ : List ℕ) → length t ≡ length t′ → length e ≡ length e′ → length n ≡ length n′ → SameReading (reading way s t e n) (reading way s t′ e′ n′)
+-- two readings of one source, by the same rule and on the same way, into tables of the same sizes give the same answer and keep the same words
+pub reading-sizes : (rule way : ℕ) (s t e n t′ e′ n′ : List ℕ) → length t ≡ length t′ → length e ≡ length e′ → length n ≡ length n′ → SameReading (reading rule way s t e n) (reading rule way s t′ e′ n′)
 unfolding reading
-reading-sizes way s t e n t′ e′ n′ tl el nl =
-    let d = lexedOf s (room tokenWidth t) (room errorWidth e) in
-    let b : d ≡ lexedOf s (room tokenWidth t′) (room errorWidth e′) = ap (λ (k : ℕ). lexedOf s k (room errorWidth e)) (room-length tokenWidth t t′ tl) ∙ ap (lexedOf s (room tokenWidth t′)) (room-length errorWidth e e′ el) in
-    subst (λ (c : Result). SameReading (readAfter (enteredAfter (onWay way d) t e n)) (readAfter (enteredAfter (onWay way c) t′ e′ n′))) b
-    (after-sizes (onWay way d) (well-on way s (room tokenWidth t) (room errorWidth e)) t e n t′ e′ n′ tl el nl)
+reading-sizes rule way s t e n t′ e′ n′ tl el nl =
+    let d = lexedOf rule s (room tokenWidth t) (room errorWidth e) in
+    let b : d ≡ lexedOf rule s (room tokenWidth t′) (room errorWidth e′) = ap (λ (k : ℕ). lexedOf rule s k (room errorWidth e)) (room-length tokenWidth t t′ tl) ∙ ap (lexedOf rule s (room tokenWidth t′)) (room-length errorWidth e e′ el) in
+    subst (λ (c : Result). SameReading (readAfter rule (enteredAfter (onWay way d) t e n)) (readAfter rule (enteredAfter (onWay way c) t′ e′ n′))) b
+    (after-sizes rule (onWay way d) (well-on rule way s (room tokenWidth t) (room errorWidth e)) t e n t′ e′ n′ tl el nl)
 
--- parsing does not end with 3 or 4
+-- parsing does not end with 3, 4 or 13
 outcome-read : {A : Type 0} (o : ℕ) → isOutcome o ≡ true → unread o ≡ true → A
-outcome-read o h = at (eqb o 3) refl (eqb o 4) refl
+outcome-read o h = at (eqb o 3) refl (eqb o 4) refl (eqb o 13) refl
   where
-    at : {A : Type 0} (x : Bool) → eqb o 3 ≡ x → (y : Bool) → eqb o 4 ≡ y → x || y ≡ true → A
-    at true p y q u = true-false (sym (subst (λ (k : ℕ). isOutcome k ≡ true) (eqb-true o 3 p) h))
-    at false p true q u = true-false (sym (subst (λ (k : ℕ). isOutcome k ≡ true) (eqb-true o 4 q) h))
-    at false p false q u = true-false (sym u)
+    not-so : {A : Type 0} (k : ℕ) → eqb o k ≡ true → isOutcome k ≡ false → A
+    not-so k p f = true-false (sym (subst (λ (j : ℕ). isOutcome j ≡ true) (eqb-true o k p) h) ∙ f)
 
-module _ (d : Result) (w : Well d) (t e n : List ℕ) (tf : length (d .tokens) ≤ length t) (ef : length (d .errors) ≤ length e) where
+    at : {A : Type 0} (x : Bool) → eqb o 3 ≡ x → (y : Bool) → eqb o 4 ≡ y → (z : Bool) → eqb o 13 ≡ z → x || (y || z) ≡ true → A
+    at true p y q z r u = not-so 3 p refl
+    at false p true q z r u = not-so 4 q refl
+    at false p false q true r u = not-so 13 r refl
+    at false p false q false r u = true-false (sym u)
+
+module _ (rule : ℕ) (d : Result) (w : Well d) (t e n : List ℕ) (tf : length (d .tokens) ≤ length t) (ef : length (d .errors) ≤ length e) where
   abbrev T : List ℕ
   T = over (d .tokens) t
 
@@ -255,23 +230,23 @@ module _ (d : Result) (w : Well d) (t e n : List ℕ) (tf : length (d .tokens) �
   errors-rest : (c : ℕ) → d .errorCount ≤ c → drop (errorWidth * c) E ≡ drop (errorWidth * c) e
   errors-rest c h = over-drop (errorWidth * c) (d .errors) e (let a = w .errors-long in omega arith)
 
-  after-rest : Rest t e n (readAfter (enteredAfter d t e n))
+  after-rest : Rest t e n (readAfter rule (enteredAfter d t e n))
   after-rest = at (eqb (d .outcome) 0)
     where
       N : List ℕ
       N = nodesAfter (d .outcome) n
 
-      at : (x : Bool) → Rest t e n (readBy x (enteredAfter d t e n))
+      at : (x : Bool) → Rest t e n (readBy x rule (enteredAfter d t e n))
       at true =
-          let k = parsed-errors-kept T (d .errorCount) E N in
-          let r = parsed T (d .errorCount) E N in
+          let k = parsed-errors-kept rule T (d .errorCount) E N in
+          let r = parsed rule T (d .errorCount) E N in
           record {
             tokens-long = over-keeps (d .tokens) t tf;
             errors-long = k .long ∙ over-keeps (d .errors) e ef;
-            nodes-long = parsed-nodes-long T (d .errorCount) E N ∙ after-long (d .outcome) n;
+            nodes-long = parsed-nodes-long rule T (d .errorCount) E N ∙ after-long (d .outcome) n;
             tokens-rest = tokens-rest;
             errors-rest = k .rest ∙ errors-rest (r .errorCount) (k .more);
-            unchanged = outcome-read (r .outcome) (parsed-outcome T (d .errorCount) E N);
+            unchanged = outcome-read (r .outcome) (parsed-outcome T rule (d .errorCount) E N);
           }
       at false =
           record {
@@ -283,25 +258,25 @@ module _ (d : Result) (w : Well d) (t e n : List ℕ) (tf : length (d .tokens) �
             unchanged = λ u. (ap (λ (ws : List ℕ). over ws t) (w .nothing u .0), ap (λ (ws : List ℕ). over ws e) (w .nothing u .1), after-unread (d .outcome) n u);
           }
 
--- a reading leaves the tables' lengths, the words behind the kept tokens and errors, and after 3 and 4 every word
-pub reading-rest : (way : ℕ) (s t e n : List ℕ) → Rest t e n (reading way s t e n)
+-- a reading leaves the tables' lengths, the words behind the kept tokens and errors, and after 3, 4 and 13 every word
+pub reading-rest : (rule way : ℕ) (s t e n : List ℕ) → Rest t e n (reading rule way s t e n)
 unfolding reading
-reading-rest way s t e n =
+reading-rest rule way s t e n =
     let a = room tokenWidth t in
     let b = room errorWidth e in
-    after-rest (onWay way (lexedOf s a b)) (well-on way s a b) t e n (tokens-within s t b) (errors-within s e a)
+    after-rest rule (onWay way (lexedOf rule s a b)) (well-on rule way s a b) t e n (tokens-within rule s t b) (errors-within rule s e a)
 
--- a source that is text and not too long is read: the reading does not end with 3 or 4
-pub reading-read : (way : ℕ) (s t e n : List ℕ) → length s ≤ 65535 → isText s ≡ true → unread (reading way s t e n .outcome) ≡ false
-unfolding reading lexedOf lexed
-reading-read way s t e n l x =
+-- a source that is text and not too long is read by a rule that is known: the reading does not end with 3, 4 or 13
+pub reading-read : (rule way : ℕ) (s t e n : List ℕ) → known rule ≡ true → length s ≤ 65535 → isText s ≡ true → unread (reading rule way s t e n .outcome) ≡ false
+unfolding reading lexedOf
+reading-read rule way s t e n k l x =
     let a = room tokenWidth t in
     let b = room errorWidth e in
-    let d = lexedOf s a b in
-    let i : d ≡ lexed s a b = simp (le-ltb 65535 (length s) l, x) in
-    after (onWay way d) (on-read way (d .outcome) (d .errorCount) (ap (λ (r : Result). unread (r .outcome)) i ∙ emit-read a b (items s 0) fresh))
+    let d = lexedOf rule s a b in
+    let i : d ≡ lexed rule s a b = simp (k, le-ltb 65535 (length s) l, x) in
+    after (onWay way d) (on-read way (d .outcome) (d .errorCount) (ap (λ (r : Result). unread (r .outcome)) i ∙ lexed-read rule _ (lexed-ends rule s a b)))
   where
-    after : (d : Result) → unread (d .outcome) ≡ false → unread (readAfter (enteredAfter d t e n) .outcome) ≡ false
+    after : (d : Result) → unread (d .outcome) ≡ false → unread (readAfter rule (enteredAfter d t e n) .outcome) ≡ false
     after d u = at (eqb (d .outcome) 0)
       where
         T : List ℕ
@@ -317,6 +292,6 @@ reading-read way s t e n l x =
         parse o h true q = outcome-read o h q
         parse o h false q = q
 
-        at : (x : Bool) → unread (readBy x (enteredAfter d t e n) .outcome) ≡ false
-        at true = parse (parsed T (d .errorCount) E N .outcome) (parsed-outcome T (d .errorCount) E N) (unread (parsed T (d .errorCount) E N .outcome)) refl
+        at : (x : Bool) → unread (readBy x rule (enteredAfter d t e n) .outcome) ≡ false
+        at true = parse (parsed rule T (d .errorCount) E N .outcome) (parsed-outcome T rule (d .errorCount) E N) (unread (parsed rule T (d .errorCount) E N .outcome)) refl
         at false = u

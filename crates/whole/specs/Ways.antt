@@ -1,19 +1,13 @@
--- What the two ways of a reading have to do with each other, and how a reading can end.
+-- What the two ways of a reading have to do with each other.
 use Prim.Native.Nat.{ℕ, _<_}
 use mathlib.Core.Path.{_≡_}
-use mathlib.Core.Bool.{Bool, _||_}
 use mathlib.Core.List.{List}
-use lib.Dec.{eqb, leb}
-use Rattle.records.specs.Outcomes.{ended, tooDeep, notParsed}
+use Rattle.records.specs.Outcomes.{ended, notParsed}
 use Rattle.records.specs.Table.{zeroed, nodeWidth}
 use Rattle.lexer.specs.Lex.{Result}
 use Rattle.entry.specs.Ways.{stop}
 use Rattle.entry.specs.Entry.{over}
 use Rattle.entry.specs.Reading.{Reading}
-
--- the outcomes of a reading: document 01's 0 to 8, and 11
-abbrev pub isFinal : ℕ → Bool
-isFinal o = leb o tooDeep || eqb o notParsed
 
 -- a reading stops before parsing: it is the new way, and what was lexed, d, reached its end and recorded an error
 pub record Stops (way : ℕ) (d : Result) : Type 0 where

@@ -25,7 +25,7 @@ same-length-3 c = search needs
 returns : tie.Need-returns
 returns c =
     let a = c .before .before .before .before .before .before .before .before .before .before .before .before .before .before .before .before .before .args in
-    clears (a .way) (a .source .now) (a .tokens .now) (a .errors .now) (a .nodes .now) _ _ _ (c .before .before .before .before .before .before .before .before .before .before .scan .ensures) _ (c .before .before .before .before .before .outcome-on .ensures) _ (c .before .before .before .before .if1 .taken) (c .before .before .zero-rest .ensures)
+    clears (a .rule) (a .way) (a .source .now) (a .tokens .now) (a .errors .now) (a .nodes .now) _ _ _ (c .before .before .before .before .before .before .before .before .before .before .scan .ensures) _ (c .before .before .before .before .before .outcome-on .ensures) _ (c .before .before .before .before .if1 .taken) (c .before .before .zero-rest .ensures)
 
 same-length-4 : tie.Need-same-length-4
 same-length-4 c = search needs
@@ -36,7 +36,7 @@ same-length-5 c = search needs
 returns-2 : tie.Need-returns-2
 returns-2 c =
     let a = c .before .before .before .before .before .before .before .before .before .before .before .before .before .args in
-    leaves (a .way) (a .source .now) (a .tokens .now) (a .errors .now) (a .nodes .now) _ _ _ (c .before .before .before .before .before .before .scan .ensures) _ (c .before .outcome-on .ensures) (c .if1 .left)
+    leaves (a .rule) (a .way) (a .source .now) (a .tokens .now) (a .errors .now) (a .nodes .now) _ _ _ (c .before .before .before .before .before .before .scan .ensures) _ (c .before .outcome-on .ensures) (c .if1 .left)
 
 pub enter-spec : {M : Type 1} → statement M
 enter-spec =

@@ -13,14 +13,14 @@ name-end-requires c κs = search needs
 keyword-requires : tie.Need-keyword-requires
 keyword-requires c κs = search needs
 
-sub-t4 : tie.Need-sub-t4
-sub-t4 c = search needs
+sub-t5 : tie.Need-sub-t5
+sub-t5 c = search needs
 
 returns : tie.Need-returns
 returns c =
     let a = c .before .before .before .args in
-    named (a .s .now) (a .i) (c .before .before .before .pre) (c .before .name-end .result) (c .keyword .result .kind) (c .before .name-end .ensures) (c .keyword .ensures)
+    named (a .rule) (a .s .now) (a .i) (c .before .before .before .pre) (c .before .name-end .result) (c .keyword .result .kind) (c .before .name-end .ensures) (c .keyword .ensures)
 
 pub identifier-spec : {M : Type 1} → statement M
 identifier-spec =
-    tie.close (tie.spec add-name-end name-end-requires keyword-requires sub-t4 returns)
+    tie.close (tie.spec add-name-end name-end-requires keyword-requires sub-t5 returns)

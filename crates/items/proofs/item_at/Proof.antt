@@ -1,5 +1,5 @@
 -- `items::item_at` meets its contract: a blank and a newline are what their class says. Assumes nothing.
-use mathlib.Core.Path.{_≡_, sym, ap}
+use mathlib.Core.Path.{sym, ap}
 use Rattle.spans.specs.Span.{isAlpha, isDigit}
 use Rattle.items.specs.declared.Sign.the-variants.{Newline, Blank}
 use Rattle.items.specs.Items.{signOf}
@@ -11,7 +11,7 @@ use Rattle.items.proofs.item_at.Tie as tie
 returns : tie.Need-returns
 returns c =
     let a = c .before .before .args in
-    past (a .s .now) (a .i) (c .if1 .taken)
+    past (a .rule) (a .s .now) (a .i) (c .if1 .taken)
 
 shared-slice-read-c : tie.Need-shared-slice-read-c
 shared-slice-read-c c = search needs
@@ -21,14 +21,14 @@ unfolding signOf
 returns-2 c =
     let a = c .before .before .before .before .args in
     let h = c .if2 .taken in
-    as-sign (a .s .now) (a .i) (c .before .before .if1 .left) Blank (ap isAlpha h) (ap isDigit h) (sym (ap signOf h))
+    as-sign (a .rule) (a .s .now) (a .i) (c .before .before .if1 .left) Blank (ap isAlpha h) (ap isDigit h) (sym (ap signOf h))
 
 returns-3 : tie.Need-returns-3
 unfolding signOf
 returns-3 c =
     let a = c .before .before .before .before .before .args in
     let h = c .if3 .taken in
-    as-sign (a .s .now) (a .i) (c .before .before .before .if1 .left) Newline (ap isAlpha h) (ap isDigit h) (sym (ap signOf h))
+    as-sign (a .rule) (a .s .now) (a .i) (c .before .before .before .if1 .left) Newline (ap isAlpha h) (ap isDigit h) (sym (ap signOf h))
 
 item-of-requires : tie.Need-item-of-requires
 item-of-requires c κs = search needs

@@ -1,10 +1,9 @@
 -- `items::item_of` meets its contract, by the class of the first byte. Assumes nothing.
-use mathlib.Core.Path.{_≡_, sym, ap, _∙_}
+use mathlib.Core.Path.{_≡_, sym, _∙_}
 use Prim.Native.Nat.{_+_}
 use lib.ListN.{getD, drop}
 use Rattle.items.specs.declared.Sign.{Sign}
 use Rattle.items.specs.declared.Sign.the-variants.{Newline, Blank, Hash, Quote, Single, Pair, Illegal}
-use Rattle.items.specs.declared.Item.the-variants.{Number}
 use Rattle.items.specs.Items.{sign, signOf, itemAs, itemAt}
 use Rattle.items.proofs.Found.{as-letter, as-digit, as-sign, remark}
 use borrow.Author.Needs.{needs}
@@ -13,10 +12,10 @@ use Rattle.items.proofs.item_of.Tie as tie
 
 -- a byte that is no letter and no digit
 other : (s : tie.After-sign-of) (z : Sign) → z ≡ signOf (getD (s .before .before .before .before .before .before .before .args .s .now) (s .before .before .before .before .before .before .before .args .i) 0)
-    → itemAs (sign z) (getD (s .before .before .before .before .before .before .before .args .s .now) (s .before .before .before .before .before .before .before .args .i) 0) (drop (s .before .before .before .before .before .before .before .args .i + 1) (s .before .before .before .before .before .before .before .args .s .now)) ≡ itemAt (drop (s .before .before .before .before .before .before .before .args .i) (s .before .before .before .before .before .before .before .args .s .now))
+    → itemAs (s .before .before .before .before .before .before .before .args .rule) (sign z) (getD (s .before .before .before .before .before .before .before .args .s .now) (s .before .before .before .before .before .before .before .args .i) 0) (drop (s .before .before .before .before .before .before .before .args .i + 1) (s .before .before .before .before .before .before .before .args .s .now)) ≡ itemAt (s .before .before .before .before .before .before .before .args .rule) (drop (s .before .before .before .before .before .before .before .args .i) (s .before .before .before .before .before .before .before .args .s .now))
 other s z e =
     let d = s .before .before .before .before .before .before .before in
-    as-sign (d .args .s .now) (d .args .i) (d .pre) z (sym (s .before .before .before .before .is-alpha .ensures) ∙ s .before .before .before .if1 .left) (sym (s .before .before .is-digit .ensures) ∙ s .before .if2 .left) e
+    as-sign (d .args .rule) (d .args .s .now) (d .args .i) (d .pre) z (sym (s .before .before .before .before .is-alpha .ensures) ∙ s .before .before .before .if1 .left) (sym (s .before .before .is-digit .ensures) ∙ s .before .if2 .left) e
 
 shared-slice-read-c : tie.Need-shared-slice-read-c
 shared-slice-read-c c = search needs
@@ -30,7 +29,7 @@ identifier-requires c κs = search needs
 returns : tie.Need-returns
 returns c =
     let d = c .before .before .before .before .before in
-    c .identifier .ensures ∙ as-letter (d .args .s .now) (d .args .i) (d .pre) (sym (c .before .before .is-alpha .ensures) ∙ c .before .if1 .taken)
+    c .identifier .ensures ∙ as-letter (d .args .rule) (d .args .s .now) (d .args .i) (d .pre) (sym (c .before .before .is-alpha .ensures) ∙ c .before .if1 .taken)
 
 is-digit-requires : tie.Need-is-digit-requires
 is-digit-requires c κs = search needs
@@ -41,8 +40,8 @@ number-requires c κs = search needs
 returns-2 : tie.Need-returns-2
 returns-2 c =
     let d = c .before .before .before .before .before .before .before in
-    ap Number (c .number .ensures)
-    ∙ as-digit (d .args .s .now) (d .args .i) (d .pre) (sym (c .before .before .before .before .is-alpha .ensures) ∙ c .before .before .before .if1 .left) (sym (c .before .before .is-digit .ensures) ∙ c .before .if2 .taken)
+    c .number .ensures
+    ∙ as-digit (d .args .rule) (d .args .s .now) (d .args .i) (d .pre) (sym (c .before .before .before .before .is-alpha .ensures) ∙ c .before .before .before .if1 .left) (sym (c .before .before .is-digit .ensures) ∙ c .before .if2 .taken)
 
 sign-of-requires : tie.Need-sign-of-requires
 sign-of-requires c κs = search needs
@@ -99,7 +98,7 @@ returns-4 c =
 returns-5 : tie.Need-returns-5
 returns-5 c =
     let s = c .before .before .before in
-    remark (s .before .before .before .before .before .before .before .args .s .now) (s .before .before .before .before .before .before .before .args .i) (s .before .before .before .before .before .before .before .pre) _ (c .comment-end .ensures) ∙ other s Hash (sym (c .before .enum-told3 .given .1) ∙ s .sign-of .ensures)
+    remark (s .before .before .before .before .before .before .before .args .rule) (s .before .before .before .before .before .before .before .args .s .now) (s .before .before .before .before .before .before .before .args .i) (s .before .before .before .before .before .before .before .pre) _ (c .comment-end .ensures) ∙ other s Hash (sym (c .before .enum-told3 .given .1) ∙ s .sign-of .ensures)
 
 returns-6 : tie.Need-returns-6
 returns-6 c =

@@ -14,16 +14,16 @@ use Rattle.lexer.proofs.scan_tokens.Statement.{statement}
 use Rattle.lexer.proofs.scan_tokens.Tie as tie
 
 abbrev Inv-loop : tie.InvT-loop
-Inv-loop source tokens₀ errors₀ l₀ at₀ tokens errors l at =
+Inv-loop rule source tokens₀ errors₀ l₀ at₀ tokens errors l at =
     (l .current ≡ at)
     × (at ≤ length source)
     × (l .line ≤ at + 1)
     × (length tokens ≡ length tokens₀)
     × (length errors ≡ length errors₀)
-    × (scanIn (items source 0) start tokens₀ errors₀ ≡ scanIn (items (drop at source) 0) l tokens errors)
+    × (scanIn (items rule source 0) start tokens₀ errors₀ ≡ scanIn (items rule (drop at source) 0) l tokens errors)
 
 abbrev μ-loop : tie.MeasureT-loop
-μ-loop source tokens₀ errors₀ l₀ at₀ tokens errors l at = length source - at
+μ-loop rule source tokens₀ errors₀ l₀ at₀ tokens errors l at = length source - at
 
 -- the item lies within the source
 inside : (c : tie.After-item-at Inv-loop μ-loop)
@@ -31,7 +31,7 @@ inside : (c : tie.After-item-at Inv-loop μ-loop)
     × (c .before .before .loop .at + sizeOf (c .item-at .result) ≤ length (c .before .before .before .before .before .before .args .source .now))
     × (linesOf (c .item-at .result) ≤ sizeOf (c .item-at .result))
     × (decodedOf (c .item-at .result) ≤ sizeOf (c .item-at .result))
-inside c = bounded-at (c .before .before .before .before .before .before .args .source .now) (c .before .before .loop .at) (c .item-at .result) (omega arith) (c .item-at .ensures)
+inside c = bounded-at (c .before .before .before .before .before .before .args .rule) (c .before .before .before .before .before .before .args .source .now) (c .before .before .loop .at) (c .item-at .result) (omega arith) (c .item-at .ensures)
 
 -- where the lexing goes on, it stands behind the item
 further : (c : tie.After-known-told Inv-loop μ-loop)
@@ -75,7 +75,7 @@ loop-again c =
       d .kept .0 ∙ l .inv .3,
       d .kept .1 .0 ∙ l .inv .4,
       l .inv .5
-          ∙ again (a .source .now) (l .tokens) (l .errors) _ _ (l .at) (l .l) (x .result) (d .result) (omega arith) (x .ensures) (z .0) (d .ensures) (c .before .m .given .0 .0) (c .before .m .given .1) (omega arith),
+          ∙ again (a .rule) (a .source .now) (l .tokens) (l .errors) _ _ (l .at) (l .l) (x .result) (d .result) (omega arith) (x .ensures) (z .0) (d .ensures) (c .before .m .given .0 .0) (c .before .m .given .1) (omega arith),
     )
 
 enum-known-o : tie.Need-enum-known-o Inv-loop μ-loop
@@ -99,7 +99,7 @@ returns c =
     let z = inside (c .before .before .before .before .before .before .before .before .before .before .before) in
     let w =
     l .inv .5
-    ∙ stops (a .source .now) (l .tokens) (l .errors) _ _ (l .at) (l .l) (x .result) (d .result) (omega arith) (x .ensures) (z .0) (d .ensures) (c .before .before .o .given .0 .0) (c .before .before .o .given .1) in
+    ∙ stops (a .rule) (a .source .now) (l .tokens) (l .errors) _ _ (l .at) (l .l) (x .result) (d .result) (omega arith) (x .ensures) (z .0) (d .ensures) (c .before .before .o .given .0 .0) (c .before .before .o .given .1) in
     ends-as _ _ _ _ _ w (record { answer-is = c .ends .ensures; tokens-are = refl; errors-are = refl })
 
 finish-requires : tie.Need-finish-requires Inv-loop μ-loop
@@ -115,7 +115,7 @@ returns-2 : tie.Need-returns-2 Inv-loop μ-loop
 returns-2 c =
     let a = c .before .before .before .before .before .before .before .before .before .args in
     let l = c .before .before .before .before .before .loop in
-    ends-as _ _ _ _ _ (l .inv .5 ∙ finishes (a .source .now) (l .tokens) (l .errors) (l .at) (l .l) (omega arith)) (finished (l .l) (l .tokens) (l .errors) _ _ (c .before .before .finish .ensures))
+    ends-as _ _ _ _ _ (l .inv .5 ∙ finishes (a .rule) (a .source .now) (l .tokens) (l .errors) (l .at) (l .l) (omega arith)) (finished (l .l) (l .tokens) (l .errors) _ _ (c .before .before .finish .ensures))
 
 pub scan-tokens-spec : {M : Type 1} → statement M
 scan-tokens-spec =

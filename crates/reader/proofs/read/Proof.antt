@@ -22,7 +22,7 @@ same-length-3 c = search needs
 returns : tie.Need-returns
 returns c =
     let a = c .before .before .before .before .before .before .before .before .before .before .before .before .before .before .before .before .before .before .before .before .before .before .before .before .args in
-    goes-on (a .way) (a .source .now) (a .tokens .now) (a .errors .now) (a .nodes .now) _ _ _ _ (c .before .before .before .before .before .before .before .before .before .before .before .before .before .before .before .before .enter .ensures) _ _ _ (c .before .before .before .before .before .before .before .before .if1 .taken) (c .before .before .before .before .parse .ensures)
+    goes-on (a .rule) (a .way) (a .source .now) (a .tokens .now) (a .errors .now) (a .nodes .now) _ _ _ _ (c .before .before .before .before .before .before .before .before .before .before .before .before .before .before .before .before .enter .ensures) _ _ _ (c .before .before .before .before .before .before .before .before .if1 .taken) (c .before .before .before .before .parse .ensures)
 
 same-length-4 : tie.Need-same-length-4
 same-length-4 c = search needs
@@ -36,7 +36,7 @@ same-length-6 c = search needs
 returns-2 : tie.Need-returns-2
 returns-2 c =
     let a = c .before .before .before .before .before .before .before .before .before .before .before .before .before .before .before .before .args in
-    ends (a .way) (a .source .now) (a .tokens .now) (a .errors .now) (a .nodes .now) _ _ _ _ (c .before .before .before .before .before .before .before .before .enter .ensures) (c .if1 .left)
+    ends (a .rule) (a .way) (a .source .now) (a .tokens .now) (a .errors .now) (a .nodes .now) _ _ _ _ (c .before .before .before .before .before .before .before .before .enter .ensures) (c .if1 .left)
 
 pub read-spec : {M : Type 1} → statement M
 read-spec =

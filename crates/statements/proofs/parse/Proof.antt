@@ -23,13 +23,13 @@ record ParseInv (T E₀ N₀ : List ℕ) (s₀ : State) (E N : List ℕ) (s : St
   nodes : length N ≡ length N₀
 
 abbrev Inv-loop : tie.InvT-loop
-Inv-loop tokens errors₀ nodes₀ recorded s₀ first₀ last₀ errors nodes s first last = ParseInv tokens errors₀ nodes₀ s₀ errors nodes s first last
+Inv-loop rule tokens errors₀ nodes₀ recorded s₀ first₀ last₀ errors nodes s first last = ParseInv tokens errors₀ nodes₀ s₀ errors nodes s first last
 
 abbrev μ-loop : tie.MeasureT-loop
-μ-loop tokens errors₀ nodes₀ recorded s₀ first₀ last₀ errors nodes s first last = count tokens - s .current
+μ-loop rule tokens errors₀ nodes₀ recorded s₀ first₀ last₀ errors nodes s first last = count tokens - s .current
 
 -- at the loop's head what is left is the whole
-head : (c : tie.At-loop Inv-loop μ-loop) → parsed (c .before .before .before .before .before .args .tokens .now) (c .before .before .before .before .before .args .recorded) (c .before .before .before .before .before .args .errors .now) (c .before .before .before .before .before .args .nodes .now) ≡ statements (suc (c .loop .inv .fuel)) (c .before .before .before .before .before .args .tokens .now) (c .loop .first) (c .loop .last) (c .loop .s) (c .loop .errors) (c .loop .nodes)
+head : (c : tie.At-loop Inv-loop μ-loop) → parsed (c .before .before .before .before .before .args .rule) (c .before .before .before .before .before .args .tokens .now) (c .before .before .before .before .before .args .recorded) (c .before .before .before .before .before .args .errors .now) (c .before .before .before .before .before .args .nodes .now) ≡ statements (suc (c .loop .inv .fuel)) (c .before .before .before .before .before .args .tokens .now) (c .loop .first) (c .loop .last) (c .loop .s) (c .loop .errors) (c .loop .nodes)
 unfolding parsed
 head c = ap (λ (s : State). statements (suc (count (c .before .before .before .before .before .args .tokens .now))) (c .before .before .before .before .before .args .tokens .now) 0 0 s (c .before .before .before .before .before .args .errors .now) (c .before .before .before .before .before .args .nodes .now)) (sym (c .before .fresh .ensures)) ∙ sym (c .loop .inv .same)
 

@@ -1,9 +1,9 @@
--- `steps::step` meets its contract: the final answer, the test, or a statement. Assumes nothing.
+-- `steps::step` meets its contract: the final answer, the two tests, or a statement. Assumes nothing.
 use mathlib.Core.Path.{sym, _∙_}
 use borrow.Author.Tests.{eqb-true, eqb-false}
 use borrow.Author.Needs.{needs}
 use Rattle.steps.specs.Steps.{left}
-use Rattle.steps.proofs.Cases.{parts, next-again, next-refuses, next-goes-on}
+use Rattle.steps.proofs.Cases.{parts, next-again, next-refuses, next-unruled, next-goes-on}
 use Rattle.steps.proofs.step.Statement.{statement}
 use Rattle.steps.proofs.step.Tie as tie
 
@@ -12,6 +12,9 @@ is-open-requires c κs = search needs
 
 fits-requires : tie.Need-fits-requires
 fits-requires c κs = search needs
+
+is-known-requires : tie.Need-is-known-requires
+is-known-requires c κs = search needs
 
 one-requires : tie.Need-one-requires
 one-requires c κs = search needs
@@ -27,8 +30,11 @@ same-length-3 c = search needs
 
 returns : tie.Need-returns
 returns c =
-    let a = c .before .before .before .before .before .before .before .before .before .before .before .before .before .before .before .before .before .before .before .args in
-    parts _ _ (c .before .before .before .before .one .ensures ∙ next-goes-on (a .tokens .now) (a .errors .now) (a .nodes .now) (a .p) (eqb-true _ 0 (sym (c .before .before .before .before .before .before .before .before .before .before .before .before .before .before .is-open .ensures) ∙ c .before .before .before .before .before .before .before .before .before .before .before .before .before .if1 .taken)) _ (c .before .before .before .before .before .before .before .before .before .fits2 .ensures) (c .before .before .before .before .before .before .before .before .if2 .taken))
+    let a = c .before .before .before .before .before .before .before .before .before .before .before .before .before .before .before .before .before .before .before .before .before .args in
+    parts _ _ (c .before .before .before .before .one .ensures ∙ next-goes-on (a .tokens .now) (a .errors .now) (a .nodes .now) (a .p) (eqb-true _ 0 (sym (c .before .before .before .before .before .before .before .before .before .before .before .before .before .before .before .before .is-open .ensures) ∙ c .before .before .before .before .before .before .before .before .before .before .before .before .before .before .before .if1 .taken)) (sym (c .before .before .before .before .before .before .before .before .before .before .before .fits2 .ensures) ∙ c .before .before .before .before .before .before .before .before .before .before .if2 .taken) (sym (c .before .before .before .before .before .before .before .before .before .is-known .ensures) ∙ c .before .before .before .before .before .before .before .before .if3 .taken))
+
+refuse-requires : tie.Need-refuse-requires
+refuse-requires c κs = search needs
 
 same-length-4 : tie.Need-same-length-4
 same-length-4 c = search needs
@@ -41,14 +47,31 @@ same-length-6 c = search needs
 
 returns-2 : tie.Need-returns-2
 returns-2 c =
-    let a = c .before .before .before .before .before .before .before .before .before .before .before .args in
-    parts _ _ (next-refuses (a .tokens .now) (a .errors .now) (a .nodes .now) (a .p) (eqb-true _ 0 (sym (c .before .before .before .before .before .before .is-open .ensures) ∙ c .before .before .before .before .before .if1 .taken)) _ (c .before .fits2 .ensures) (c .if2 .left))
+    let a = c .before .before .before .before .before .before .before .before .before .before .before .before .before .before .args in
+    parts _ _ (next-unruled (a .tokens .now) (a .errors .now) (a .nodes .now) (a .p) (eqb-true _ 0 (sym (c .before .before .before .before .before .before .before .before .before .is-open .ensures) ∙ c .before .before .before .before .before .before .before .before .if1 .taken)) (sym (c .before .before .before .before .fits2 .ensures) ∙ c .before .before .before .if2 .taken) (sym (c .before .before .is-known .ensures) ∙ c .before .if3 .left) _ (c .refuse .ensures))
+
+refuse-requires-2 : tie.Need-refuse-requires-2
+refuse-requires-2 c κs = search needs
+
+same-length-7 : tie.Need-same-length-7
+same-length-7 c = search needs
+
+same-length-8 : tie.Need-same-length-8
+same-length-8 c = search needs
+
+same-length-9 : tie.Need-same-length-9
+same-length-9 c = search needs
+
+returns-3 : tie.Need-returns-3
+returns-3 c =
+    let a = c .before .before .before .before .before .before .before .before .before .before .before .before .args in
+    parts _ _ (next-refuses (a .tokens .now) (a .errors .now) (a .nodes .now) (a .p) (eqb-true _ 0 (sym (c .before .before .before .before .before .before .before .is-open .ensures) ∙ c .before .before .before .before .before .before .if1 .taken)) (sym (c .before .before .fits2 .ensures) ∙ c .before .if2 .left) _ (c .refuse2 .ensures))
 
 leave-requires : tie.Need-leave-requires
 leave-requires c κs = search needs
 
-returns-3 : tie.Need-returns-3
-returns-3 c =
+returns-4 : tie.Need-returns-4
+returns-4 c =
     let a = c .before .before .before .before .before .before .before .args in
     parts _ _ ((λ i. left (c .leave .ensures i) (a .tokens .now) (a .errors .now) (a .nodes .now)) ∙ next-again (a .tokens .now) (a .errors .now) (a .nodes .now) (a .p) (eqb-false _ 0 (sym (c .before .before .is-open .ensures) ∙ c .before .if1 .left)))
 
@@ -58,14 +81,21 @@ step-spec =
     (tie.spec
     is-open-requires
     fits-requires
+    is-known-requires
     one-requires
     same-length
     same-length-2
     same-length-3
     returns
+    refuse-requires
     same-length-4
     same-length-5
     same-length-6
     returns-2
+    refuse-requires-2
+    same-length-7
+    same-length-8
+    same-length-9
+    returns-3
     leave-requires
-    returns-3)
+    returns-4)
