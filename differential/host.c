@@ -4,15 +4,15 @@
  * The library's archive is for x86-64. As a program of its own this file can be run by an emulator
  * where the machine is another one, while the test that asks is built for that machine.
  *
- * A request is six 32-bit words, lowest byte first:
- *   1, length, behind, 0, 0, 0            sets the source; its bytes follow; no answer
- *   2, token words, error words, fill, 0, 0
+ * A request is seven 32-bit words, lowest byte first:
+ *   1, length, behind, 0, 0, 0, 0         sets the source; its bytes follow; no answer
+ *   2, token words, error words, fill, rule, 0, 0
  *                                         lexes it
- *   3, buffer bytes, fill, start, start, 0
+ *   3, buffer bytes, fill, start, start, 0, 0
  *                                         decodes the string at start (low word, high word)
- *   4, token, error and node words, fill, way
+ *   4, token, error and node words, fill, rule, way
  *                                         reads it
- *   5, token, error and node words, fill, way
+ *   5, token, error and node words, fill, rule, way
  *                                         reads it one statement at a time, and once more
  * An answer is some words and then the tables, or the buffer, as the call left them:
  *   outcome, tokens, errors, intact       after 2; the token words and the error words follow
@@ -21,8 +21,10 @@
  *                                         after 4 and 5; count times four words and the token, error
  *                                         and node words follow
  * Each table lies between guards; intact is 1 if all of them are as they were, else 0. After 5 steady
- * is 1 if the read behind the final answer gave it again and changed nothing, and the parser's way is
- * the one that was set; the count is that of the answers 19: tokens, errors, nodes and first statement of each follow. After 4 they are 1 and 0.
+ * is 1 if the read behind the final answer gave it again and changed nothing, and the parser's rule and
+ * way are those that were set; behind 13, which is no final answer, if the parser is as it was set, and
+ * the read answered 18 and changed nothing. The count is that of the answers 19: tokens, errors, nodes
+ * and first statement of each follow. After 4 they are 1 and 0.
  *
  * No header is included: the toolchain's compiler comes without those of the C library.
  */
@@ -40,13 +42,13 @@ void exit(int status) __attribute__((noreturn));
 struct Scanned { u32 outcome, tokens, errors; };
 struct Decoded { u32 outcome; usize length; };
 struct Answer { u32 outcome, tokens, errors, nodes, first; };
-struct Scanned kettleplume_scan(const u8 *source, usize length, u32 *tokens, usize token_words,
-                                u32 *errors, usize error_words);
+struct Scanned kettleplume_scan(u32 rule, const u8 *source, usize length, u32 *tokens,
+                                usize token_words, u32 *errors, usize error_words);
 struct Decoded kettleplume_decode(const u8 *source, usize length, usize start, u8 *buffer, usize room);
-struct Answer kettleplume_read(u32 way, const u8 *source, usize length, u32 *tokens,
+struct Answer kettleplume_read(u32 rule, u32 way, const u8 *source, usize length, u32 *tokens,
                                usize token_words, u32 *errors, usize error_words, u32 *nodes,
                                usize node_words);
-struct Parser { u32 way, current, loops, tokens, errors, nodes, first, last, ended, outcome; };
+struct Parser { u32 rule, way, current, loops, tokens, errors, nodes, first, last, ended, outcome; };
 struct Answer kettleplume_begin(struct Parser *parser, const u8 *source, usize length, u32 *tokens,
                                 usize token_words, u32 *errors, usize error_words, u32 *nodes,
                                 usize node_words);
@@ -54,10 +56,14 @@ struct Answer kettleplume_next(struct Parser *parser, const u8 *source, usize le
                                usize token_words, u32 *errors, usize error_words, u32 *nodes,
                                usize node_words);
 
-/* The words of each record and the answer that there is more to read come from the compiler's
- * command line, where src/host/child.rs puts Rust's own numbers. */
-#if !defined TOKEN_WORDS || !defined ERROR_WORDS || !defined NODE_WORDS || !defined MORE
-#error "TOKEN_WORDS, ERROR_WORDS, NODE_WORDS and MORE have to be given"
+/* The words of each record and some outcomes, that there is more to read, that the rule is none and
+ * that parser and tables don't go together, come from the compiler's command line, where
+ * src/host/child.rs puts Rust's own numbers. */
+#if !defined TOKEN_WORDS || !defined ERROR_WORDS || !defined NODE_WORDS
+#error "TOKEN_WORDS, ERROR_WORDS and NODE_WORDS have to be given"
+#endif
+#if !defined MORE || !defined WRONG_RULE || !defined MISMATCH
+#error "MORE, WRONG_RULE and MISMATCH have to be given"
 #endif
 
 enum {
@@ -138,11 +144,11 @@ static void set_source(usize length, u8 behind) {
     source_length = length;
 }
 
-static void lex(usize token_words, usize error_words, u32 fill) {
+static void lex(usize token_words, usize error_words, u32 fill, u32 rule) {
     if (token_words > TOKEN_TABLE || error_words > ERROR_TABLE) exit(2);
     lay(tokens, token_words, fill);
     lay(errors, error_words, fill);
-    struct Scanned r = kettleplume_scan(source, source_length, tokens + GUARD, token_words,
+    struct Scanned r = kettleplume_scan(rule, source, source_length, tokens + GUARD, token_words,
                                         errors + GUARD, error_words);
     u32 whole = intact(tokens, token_words) & intact(errors, error_words);
     u32 answer[4] = {r.outcome, r.tokens, r.errors, whole};
@@ -164,6 +170,14 @@ static u32 same_words(const u32 *a, const u32 *b, usize words) {
     return 1;
 }
 
+static u32 same_answer(const struct Answer *a, const struct Answer *b) {
+    return same_words((const u32 *)a, (const u32 *)b, sizeof *a / sizeof(u32));
+}
+
+static u32 same_parser(const struct Parser *a, const struct Parser *b) {
+    return same_words((const u32 *)a, (const u32 *)b, sizeof *a / sizeof(u32));
+}
+
 static u32 as_kept(usize token_words, usize error_words, usize node_words) {
     return same_words(kept, tokens + GUARD, token_words) &
            same_words(kept + token_words, errors + GUARD, error_words) &
@@ -171,10 +185,13 @@ static u32 as_kept(usize token_words, usize error_words, usize node_words) {
 }
 
 /* Begins and reads up to the final answer, and once more; no source needs more reads than this. */
-static struct Answer one_at_a_time(u32 way, usize t, usize e, usize n, u32 *steady, u32 *count) {
+static struct Answer one_at_a_time(u32 rule, u32 way, usize t, usize e, usize n, u32 *steady,
+                                   u32 *count) {
     static const struct Parser none;
-    struct Parser parser = none;
-    parser.way = way;
+    static const struct Answer mismatch = {MISMATCH, 0, 0, 0, 0};
+    struct Parser set = none;
+    set.rule = rule, set.way = way;
+    struct Parser parser = set;
     struct Answer r = kettleplume_begin(&parser, source, source_length, tokens + GUARD, t,
                                         errors + GUARD, e, nodes + GUARD, n);
     for (*count = 0; r.outcome == MORE && *count < source_length + 3; ++*count) {
@@ -187,22 +204,23 @@ static struct Answer one_at_a_time(u32 way, usize t, usize e, usize n, u32 *stea
     struct Parser before = parser;
     struct Answer again = kettleplume_next(&parser, source, source_length, tokens + GUARD, t,
                                            errors + GUARD, e, nodes + GUARD, n);
-    *steady = as_kept(t, e, n) & (parser.way == way) &
-              same_words((u32 *)&again, (u32 *)&r, sizeof r / sizeof(u32)) &
-              same_words((u32 *)&before, (u32 *)&parser, sizeof parser / sizeof(u32));
+    u32 refused = r.outcome == WRONG_RULE;
+    *steady = as_kept(t, e, n) & (parser.rule == rule) & (parser.way == way) &
+              same_answer(&again, refused ? &mismatch : &r) &
+              same_parser(&parser, refused ? &set : &before);
     return r;
 }
 
 static void read_into(u32 pair, usize token_words, usize error_words, usize node_words, u32 fill,
-                      u32 way) {
+                      u32 rule, u32 way) {
     if (token_words > TOKEN_TABLE || error_words > ERROR_TABLE || node_words > NODE_TABLE) exit(2);
     lay(tokens, token_words, fill);
     lay(errors, error_words, fill);
     lay(nodes, node_words, fill);
     u32 steady = 1, count = 0;
     struct Answer r =
-        pair ? one_at_a_time(way, token_words, error_words, node_words, &steady, &count)
-             : kettleplume_read(way, source, source_length, tokens + GUARD, token_words,
+        pair ? one_at_a_time(rule, way, token_words, error_words, node_words, &steady, &count)
+             : kettleplume_read(rule, way, source, source_length, tokens + GUARD, token_words,
                                 errors + GUARD, error_words, nodes + GUARD, node_words);
     u32 whole = intact(tokens, token_words) & intact(errors, error_words) & intact(nodes, node_words);
     u32 answer[8] = {r.outcome, r.tokens, r.errors, r.nodes, r.first, whole, steady, count};
@@ -228,14 +246,14 @@ static void decode(usize room, u8 fill, usize start) {
 
 int main(void) {
     for (;;) {
-        u32 q[6];
+        u32 q[7];
         get(q, sizeof q);
         switch (q[0]) {
         case 1: set_source(q[1], (u8)q[2]); break;
-        case 2: lex(q[1], q[2], q[3]); break;
+        case 2: lex(q[1], q[2], q[3], q[4]); break;
         case 3: decode(q[1], (u8)q[2], (usize)q[4] << 32 | q[3]); break;
-        case 4: read_into(0, q[1], q[2], q[3], q[4], q[5]); break;
-        case 5: read_into(1, q[1], q[2], q[3], q[4], q[5]); break;
+        case 4: read_into(0, q[1], q[2], q[3], q[4], q[5], q[6]); break;
+        case 5: read_into(1, q[1], q[2], q[3], q[4], q[5], q[6]); break;
         default: return 2;
         }
     }

@@ -1,12 +1,39 @@
 //! Makes the parser that `logged` runs: the unchanged `parser.rs` with calls put in that note when
 //! a node is finished, a level opens and a top-level statement is kept, and with the token that each
 //! error is about, where the original has 0. Errors are noted by the state, which is `logged`'s own.
+//!
+//! And makes the lexer and the parser of rule two: the unchanged ones with three lines changed. Its
+//! parser is there with a log and without.
 
 use std::path::Path;
 use std::{env, fs};
 
 /// What takes the place of a text, and how often that text stands in the file.
 type Edit = (&'static str, &'static str, usize);
+
+/// Rule two: a name may have digits behind its first byte, and a number with a point may end the script.
+const RULE_TWO_LEXER: &[Edit] = &[
+    (
+        "while !self.is_at_end() && self.is_alpha(self.next()) {",
+        "while !self.is_at_end() && (self.is_alpha(self.next()) || self.is_digit(self.next())) {",
+        1,
+    ),
+    (
+        "while self.is_digit(self.next()) {",
+        "while !self.is_at_end() && self.is_digit(self.next()) {",
+        1,
+    ),
+];
+
+/// Rule two: an enhanced for gives its loop count back, as the classic one does.
+const RULE_TWO_PARSER: &[Edit] = &[(
+    "        return Stmt::EnhancedFor(EnhancedForStmt {\n",
+    "        self.leave_loop();\n        return Stmt::EnhancedFor(EnhancedForStmt {\n",
+    1,
+)];
+
+/// What begins a file, but can't stand in one that is included.
+const INCLUDED: &[Edit] = &[("#![allow(dead_code)]\n", "", 1)];
 
 /// The state that keeps the log.
 const PATHS: &[Edit] = &[("use crate::state::*;", "use super::state::*;", 1)];
@@ -164,20 +191,40 @@ const NODES: &[(&str, u32, usize)] = &[
 ];
 
 fn main() {
-    println!("cargo:rerun-if-changed=src/parser.rs");
     println!("cargo:rerun-if-changed=build.rs");
-    let mut text = fs::read_to_string("src/parser.rs").expect("the parser is there");
-    for edits in [PATHS, LEVELS, STATEMENTS, PLACES, SMALL_NODES] {
-        for &(old, new, count) in edits {
-            text = replaced(&text, old, new, count);
-        }
-    }
+    let [lexer, parser] = ["src/lexer.rs", "src/parser.rs"].map(original);
+    let parser_two = edited(&parser, &[RULE_TWO_PARSER]);
+    write("logged_parser.rs", &logging(&parser));
+    write("logged_parser_two.rs", &logging(&parser_two));
+    write("parser_two.rs", &parser_two);
+    write("lexer_two.rs", &edited(&lexer, &[INCLUDED, RULE_TWO_LEXER]));
+}
+
+fn original(file: &str) -> String {
+    println!("cargo:rerun-if-changed={file}");
+    fs::read_to_string(file).expect("the original is there")
+}
+
+fn write(name: &str, text: &str) {
+    let folder = env::var_os("OUT_DIR").expect("cargo gives a folder");
+    fs::write(Path::new(&folder).join(name), text).expect("the file is written");
+}
+
+/// A parser with its log.
+fn logging(parser: &str) -> String {
+    let mut text = edited(parser, &[PATHS, LEVELS, STATEMENTS, PLACES, SMALL_NODES]);
     for &(line, kind, count) in NODES {
         let new = format!("self.state.node({kind}); {line}");
         text = replaced(&text, line, &new, count);
     }
-    let folder = env::var_os("OUT_DIR").expect("cargo gives a folder");
-    fs::write(Path::new(&folder).join("logged_parser.rs"), text).expect("the file is written");
+    text
+}
+
+fn edited(text: &str, groups: &[&[Edit]]) -> String {
+    let edits = groups.iter().copied().flatten();
+    edits.fold(text.to_string(), |text, &(old, new, count)| {
+        replaced(&text, old, new, count)
+    })
 }
 
 /// A text that stands elsewhere, or more often, was not what the edit is about.

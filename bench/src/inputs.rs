@@ -84,17 +84,18 @@ fn is_read(script: &str) -> bool {
 }
 
 /// The scripts that the comparison with the original makes: short names and a blank behind each
-/// token, so that most of it is work for the parser.
+/// token, so that most of it is work for the parser. Each is read by itself and behind the one
+/// before it, with which it may make one statement.
 fn dense() -> String {
     let mut maker = Maker {
         dice: Dice::new(64),
     };
-    let mut text = String::new();
+    let (mut text, mut last) = (String::new(), String::new());
     while text.len() + 512 < LONG {
-        let more = maker.lines().join(" ") + "\n";
-        if more.len() < 512 && is_read(&more) {
-            text += more.trim();
-            text += "\n";
+        let more = maker.lines().join(" ").trim().to_string() + "\n";
+        if more.len() < 512 && is_read(&more) && is_read(&format!("{last}{more}")) {
+            text += &more;
+            last = more;
         }
     }
     text

@@ -1,12 +1,12 @@
 //! The proved library, and its own text compiled by rustc: the same calls on the same tables.
 
 use kettleplume::border;
-use kettleplume::records::{outcome, way, ERROR_WORDS, NODE_WORDS, TOKEN_WORDS};
+use kettleplume::records::{outcome, rule, way, ERROR_WORDS, NODE_WORDS, TOKEN_WORDS};
 use kettleplume::Rooms;
 
 use crate::same;
 
-/// Either of the two, on the original's way. A reading answers with the outcome, the counts and the first statement.
+/// Either of the two, by rule one and on the original's way. A reading answers with the outcome, the counts and the first statement.
 pub trait Reader {
     fn scan(source: &[u8], tokens: &mut [u32], errors: &mut [u32]) -> [u32; 3];
     fn read(source: &[u8], tokens: &mut [u32], errors: &mut [u32], nodes: &mut [u32]) -> [u32; 5];
@@ -16,12 +16,12 @@ pub struct Library;
 
 impl Reader for Library {
     fn scan(source: &[u8], tokens: &mut [u32], errors: &mut [u32]) -> [u32; 3] {
-        let s = border::scan(source, tokens, errors);
+        let s = border::scan(rule::ONE, source, tokens, errors);
         [s.outcome, s.tokens, s.errors]
     }
 
     fn read(source: &[u8], tokens: &mut [u32], errors: &mut [u32], nodes: &mut [u32]) -> [u32; 5] {
-        let a = border::read(way::GO_ON, source, tokens, errors, nodes);
+        let a = border::read(rule::ONE, way::GO_ON, source, tokens, errors, nodes);
         [a.outcome, a.tokens, a.errors, a.nodes, a.first]
     }
 }
@@ -32,13 +32,14 @@ impl Reader for SameText {
     // The library is behind a call too.
     #[inline(never)]
     fn scan(source: &[u8], tokens: &mut [u32], errors: &mut [u32]) -> [u32; 3] {
-        let s = same::reader::kettleplume_scan(source, tokens, errors);
+        let s = same::reader::kettleplume_scan(rule::ONE, source, tokens, errors);
         [s.outcome, s.tokens, s.errors]
     }
 
     #[inline(never)]
     fn read(source: &[u8], tokens: &mut [u32], errors: &mut [u32], nodes: &mut [u32]) -> [u32; 5] {
-        let a = same::reader::kettleplume_read(way::GO_ON, source, tokens, errors, nodes);
+        let a =
+            same::reader::kettleplume_read(rule::ONE, way::GO_ON, source, tokens, errors, nodes);
         [a.outcome, a.tokens, a.errors, a.nodes, a.first]
     }
 }

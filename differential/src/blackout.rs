@@ -1,5 +1,5 @@
 //! Demand 3 by running: pairs of scripts that its premise permits are read alike, at every word,
-//! and what changes a reading is refused.
+//! and what changes a reading is refused, by each rule.
 //!
 //! `differential blackout COUNT SEED` tries random pairs on the original's whole reading and on the
 //! library's. What the premise is, and the pairs that the Rattle definition is held against, stands in
@@ -12,6 +12,7 @@ use crate::host::{Answer, Host, ReadAnswer, ReadCall, Request};
 use expected::lexing::is_text;
 use expected::mixed_dice::Dice;
 use expected::records::{way, ERROR_WORDS, NODE_WORDS, TOKEN_WORDS};
+use expected::rules::{number, Rule};
 use vectors::blackout::change::{any_first, broken, changed, exchanged};
 use vectors::blackout::premise::{permitted, Clause, CLAUSES};
 use vectors::blackout::tables::Tables;
@@ -68,7 +69,11 @@ impl fmt::Display for Report {
     }
 }
 
-/// Tries so many pairs, on the library too if there is a host; what went wrong, if anything did.
+/// A rule, and two scripts that it permits beside each other.
+type Permitted = (Rule, [Vec<u8>; 2]);
+
+/// Tries so many pairs by each rule, on the library too if there is a host; what went wrong, if anything
+/// did.
 pub fn blackout(mut host: Option<&mut Host>, count: usize, seed: u64) -> Result<Report, String> {
     // The original reads by recursion.
     oracle::on_large_stack(|| {
@@ -84,12 +89,14 @@ pub fn blackout(mut host: Option<&mut Host>, count: usize, seed: u64) -> Result<
                     break script;
                 }
             };
-            let second = changed(&mut dice, &first);
-            report.permitted_pair(&first, &second)?;
-            report.refused_pair(&mut dice, &first, &second)?;
-            report.exchanged_pair(&mut dice, &first)?;
-            batch.push([first, second]);
-            if batch.len() == BATCH {
+            for rule in Rule::BOTH {
+                let second = changed(&mut dice, rule, &first);
+                report.permitted_pair(rule, &first, &second)?;
+                report.refused_pair(&mut dice, rule, &first, &second)?;
+                report.exchanged_pair(&mut dice, rule, &first)?;
+                batch.push((rule, [first.clone(), second]));
+            }
+            if batch.len() >= BATCH {
                 report.library(&mut host, &mut dice, &mut batch)?;
             }
         }
@@ -100,13 +107,13 @@ pub fn blackout(mut host: Option<&mut Host>, count: usize, seed: u64) -> Result<
 
 impl Report {
     /// The premise holds, and the original reads both alike.
-    fn permitted_pair(&mut self, first: &[u8], second: &[u8]) -> Result<(), String> {
-        if !permitted(first, second) {
-            return Err(told("a permitted change is refused", first, second));
+    fn permitted_pair(&mut self, rule: Rule, first: &[u8], second: &[u8]) -> Result<(), String> {
+        if !permitted(rule, first, second) {
+            return Err(told("a permitted change is refused", rule, first, second));
         }
-        let read = Tables::original(first);
-        if read != Tables::original(second) {
-            return Err(told("a permitted pair is read differently", first, second));
+        let read = Tables::original(rule, first);
+        if read != Tables::original(rule, second) {
+            return Err(told(READ_DIFFERENTLY, rule, first, second));
         }
         *self.outcomes.entry(read.answer[0]).or_default() += 1;
         let bytes = first.iter().zip(second).filter(|(b, c)| b != c).count();
@@ -117,29 +124,33 @@ impl Report {
     }
 
     /// A change that breaks a clause is refused.
-    fn refused_pair(&mut self, dice: &mut Dice, first: &[u8], second: &[u8]) -> Result<(), String> {
+    fn refused_pair(
+        &mut self,
+        dice: &mut Dice,
+        rule: Rule,
+        first: &[u8],
+        second: &[u8],
+    ) -> Result<(), String> {
         let clause = CLAUSES[dice.below(CLAUSES.len())];
-        let Some(script) = broken(dice, clause, first, second) else {
+        let Some(script) = broken(dice, rule, clause, first, second) else {
             return Ok(());
         };
-        if permitted(first, &script) {
+        if permitted(rule, first, &script) {
             let what = format!("a change that breaks {clause:?} is permitted");
-            return Err(told(&what, first, &script));
+            return Err(told(&what, rule, first, &script));
         }
         let counts = self.refused.entry(clause).or_default();
         counts[0] += 1;
-        counts[1] += u64::from(reads_differently(first, &script));
+        counts[1] += u64::from(reads_differently(rule, first, &script));
         Ok(())
     }
 
     /// Whatever changes the reading is refused.
-    fn exchanged_pair(&mut self, dice: &mut Dice, first: &[u8]) -> Result<(), String> {
+    fn exchanged_pair(&mut self, dice: &mut Dice, rule: Rule, first: &[u8]) -> Result<(), String> {
         let script = exchanged(dice, first);
-        let differently = reads_differently(first, &script);
-        let index = match (permitted(first, &script), differently) {
-            (true, true) => {
-                return Err(told("a permitted pair is read differently", first, &script))
-            }
+        let differently = reads_differently(rule, first, &script);
+        let index = match (permitted(rule, first, &script), differently) {
+            (true, true) => return Err(told(READ_DIFFERENTLY, rule, first, &script)),
             (true, false) => 0,
             (false, false) => 1,
             (false, true) => 2,
@@ -154,12 +165,12 @@ impl Report {
         &mut self,
         host: &mut Option<&mut Host>,
         dice: &mut Dice,
-        batch: &mut Vec<[Vec<u8>; 2]>,
+        batch: &mut Vec<Permitted>,
     ) -> Result<(), String> {
         let batch = std::mem::take(batch);
         let Some(host) = host else { return Ok(()) };
         let (mut requests, mut fills) = (vec![], vec![]);
-        for pair in &batch {
+        for (rule, pair) in &batch {
             let mut room = |most: usize| {
                 if dice.one_in(2) {
                     most
@@ -182,6 +193,7 @@ impl Report {
                 for way in [way::STOP, way::GO_ON] {
                     let fill = dice.word() as u32;
                     requests.push(Request::Read(ReadCall {
+                        rule: number(*rule),
                         way,
                         pair: false,
                         token_words,
@@ -203,10 +215,10 @@ impl Report {
         if pairs.len() != batch.len() {
             return Err("an answer is missing".to_string());
         }
-        for ([first, second], [a, b, c, d]) in batch.iter().zip(pairs) {
+        for ((rule, [first, second]), [a, b, c, d]) in batch.iter().zip(pairs) {
             // The same way for both.
             for reading in [[a, c], [b, d]] {
-                let outcome = alike(reading).map_err(|what| told(&what, first, second))?;
+                let outcome = alike(reading).map_err(|what| told(&what, *rule, first, second))?;
                 *self.library.entry(outcome).or_default() += 1;
             }
         }
@@ -249,12 +261,14 @@ fn tables(reading: &ReadAnswer, fill: u32) -> Result<Tables, String> {
 }
 
 /// Whether the original reads the two differently.
-fn reads_differently(first: &[u8], second: &[u8]) -> bool {
-    Tables::original(first) != Tables::original(second)
+fn reads_differently(rule: Rule, first: &[u8], second: &[u8]) -> bool {
+    Tables::original(rule, first) != Tables::original(rule, second)
 }
 
-fn told(what: &str, first: &[u8], second: &[u8]) -> String {
-    let mut text = format!("{what}\n");
+const READ_DIFFERENTLY: &str = "a permitted pair is read differently";
+
+fn told(what: &str, rule: Rule, first: &[u8], second: &[u8]) -> String {
+    let mut text = format!("{what}, rule {}\n", number(rule));
     for script in [first, second] {
         let _ = writeln!(text, "  \"{}\"", script.escape_ascii());
     }

@@ -5,9 +5,10 @@ use std::slice;
 
 use crate::host::{Answer, DecodeAnswer, DecodeCall, Host, LexAnswer, LexCall, ReadCall, Request};
 use crate::whole::{read_differs, Wanted};
-use expected::lexing::{expect, Decoding, Error, Lexing, Token};
+use expected::lexing::{expect, Decoding, Error, Lexing, Token, LONGEST};
 use expected::mixed_dice::Dice;
-use expected::records::{outcome, ERROR_WORDS, TOKEN_WORDS};
+use expected::records::{outcome, rule, ERROR_WORDS, TOKEN_WORDS};
+use expected::rules::WRONG;
 
 /// A source and the calls to make with it.
 #[derive(Debug, Clone)]
@@ -52,20 +53,26 @@ impl Trial {
         }
     }
 
-    /// One lexing with room enough, and the decoding of its strings.
+    /// One lexing by each rule with room enough, and the decoding of its strings, which are the same by
+    /// both.
     pub fn whole(source: &[u8]) -> Trial {
         let mut dice = Dice::of(source);
         let mut trial = Trial::new(source, &mut dice);
-        let (lexing, texts) = expect(source);
-        // Sometimes exactly enough, sometimes with records to spare.
-        let token_room = lexing.tokens.len() + dice.below(3);
-        let error_room = lexing.errors.len() + dice.below(3);
-        let call = LexCall {
-            token_words: TOKEN_WORDS * token_room + dice.below(TOKEN_WORDS),
-            error_words: ERROR_WORDS * error_room + dice.below(ERROR_WORDS),
-            fill: dice.word() as u32,
-        };
-        trial.calls.push(Call::Lex(call, lexing));
+        let mut texts = vec![];
+        for rule in rules(source, &mut dice) {
+            let (lexing, found) = expect(rule, source);
+            texts = found;
+            // Sometimes exactly enough, sometimes with records to spare.
+            let token_room = lexing.tokens.len() + dice.below(3);
+            let error_room = lexing.errors.len() + dice.below(3);
+            let call = LexCall {
+                rule,
+                token_words: TOKEN_WORDS * token_room + dice.below(TOKEN_WORDS),
+                error_words: ERROR_WORDS * error_room + dice.below(ERROR_WORDS),
+                fill: dice.word() as u32,
+            };
+            trial.calls.push(Call::Lex(call, lexing));
+        }
         // Each decoding tests the whole source first: in a long one that has thousands of strings,
         // some of them have to do.
         let step = if source.len() > 8192 {
@@ -86,6 +93,18 @@ impl Trial {
         }
         trial
     }
+}
+
+/// The rules by which a source is tried: both of them, the second last; and before them, now and then and
+/// where the source is too long, a number that names none.
+pub fn rules(source: &[u8], dice: &mut Dice) -> Vec<u32> {
+    let mut rules = vec![rule::ONE, rule::TWO];
+    if source.len() > LONGEST || dice.one_in(16) {
+        let any = 3 + dice.below(1 << 20) as u32;
+        let wrong = [WRONG[0], WRONG[1], WRONG[2], any];
+        rules.insert(0, wrong[dice.below(wrong.len())]);
+    }
+    rules
 }
 
 /// Makes the calls of all trials: the first difference, with its trial's index. A call that ends

@@ -1,15 +1,16 @@
 //! Reads of one statement over parsers and tables that no call left: what the host changed between
 //! two calls, or never had from `begin`.
 //!
-//! When a read answers 18, and that it then changes nothing, is written here from document 01. Where
-//! it goes on with something that no reading left, the original can't be asked: then what it answers
-//! is held to what any read keeps to.
+//! When a read answers 18 or 13, and that it then changes nothing, is written here from document 01 and
+//! the request for rules. Where it goes on with something that no reading left, the original can't be
+//! asked: then what it answers is held to what any read keeps to.
 
 use std::collections::BTreeMap;
 
 use expected::records::{
-    node, outcome, token, Error, Token, ERROR_WORDS, NODE_WORDS, TOKEN_WORDS, WIDTHS,
+    node, outcome, rule, token, Error, Token, ERROR_WORDS, NODE_WORDS, TOKEN_WORDS, WIDTHS,
 };
+use expected::rules::named;
 use kettleplume::border::{Answer, Parser};
 
 use crate::parse_scripts::Scripts;
@@ -41,13 +42,16 @@ pub struct Lent {
 }
 
 impl Lent {
-    /// What begin and so many reads leave.
-    pub fn begun(way: u32, source: &[u8], rooms: [usize; 3], fill: u32, reads: usize) -> Lent {
+    /// What begin and so many reads leave, by the rule and on the way that this parser has.
+    pub fn begun(
+        parser: Parser,
+        source: &[u8],
+        rooms: [usize; 3],
+        fill: u32,
+        reads: usize,
+    ) -> Lent {
         let mut lent = Lent {
-            parser: Parser {
-                way,
-                ..Parser::default()
-            },
+            parser,
             source: source.to_vec(),
             tokens: vec![fill; rooms[0]],
             errors: vec![fill; rooms[1]],
@@ -86,6 +90,11 @@ impl Lent {
             && tokens[..count].iter().position(|t| t[token::KIND] == EOF) == Some(count - 1)
     }
 
+    /// Whether the parser's rule is one.
+    fn is_ruled(&self) -> bool {
+        named(self.parser.rule).is_some()
+    }
+
     /// How many records each table has room for.
     fn rooms(&self) -> [usize; 3] {
         let words = [self.tokens.len(), self.errors.len(), self.nodes.len()];
@@ -109,7 +118,7 @@ impl Lent {
         let words = [self.tokens.len(), self.errors.len(), self.nodes.len()];
         let count = self.parser.tokens;
         let p = &mut self.parser;
-        let field = match dice.below(10) {
+        let field = match dice.below(11) {
             0 => &mut p.current,
             1 => &mut p.loops,
             2 => &mut p.tokens,
@@ -119,6 +128,7 @@ impl Lent {
             6 => &mut p.last,
             7 => &mut p.ended,
             8 => &mut p.way,
+            9 => &mut p.rule,
             _ => &mut p.outcome,
         };
         *field = match dice.below(7) {
@@ -176,8 +186,13 @@ pub fn damaged(count: usize, seed: u64) -> Result<Counts, String> {
             NODE_WORDS * dice.below(2 * length + 3),
         ];
         let rooms = rooms.map(|words| words + dice.below(NODE_WORDS));
-        let (way, fill) = (dice.below(3) as u32, dice.word() as u32);
-        let mut lent = Lent::begun(way, &source, rooms, fill, dice.below(4));
+        let parser = Parser {
+            rule: [rule::ONE, rule::TWO][dice.below(2)],
+            way: dice.below(3) as u32,
+            ..Parser::default()
+        };
+        let fill = dice.word() as u32;
+        let mut lent = Lent::begun(parser, &source, rooms, fill, dice.below(4));
         for _ in 0..=dice.below(3) {
             if dice.one_in(2) {
                 lent.damage_parser(&mut dice);
@@ -190,13 +205,30 @@ pub fn damaged(count: usize, seed: u64) -> Result<Counts, String> {
             let answer = lent.next();
             *counts.entry(answer.outcome).or_default() += 1;
             if let Some(what) = wrong(&before, &lent, &answer) {
-                return Err(format!(
-                    "{what}\nanswer: {answer:?}\nbefore: {before:?}\nafter: {lent:?}"
-                ));
+                return Err(told(what, &before, &lent, &answer));
+            }
+        }
+        if !lent.is_ruled() {
+            let before = lent.clone();
+            let answer = lent.begin();
+            if (&lent, answer) != (&before, refusal(outcome::WRONG_RULE)) {
+                return Err(told("a begin without a rule", &before, &lent, &answer));
             }
         }
     }
     Ok(counts)
+}
+
+fn told(what: &str, before: &Lent, after: &Lent, answer: &Answer) -> String {
+    format!("{what}\nanswer: {answer:?}\nbefore: {before:?}\nafter: {after:?}")
+}
+
+/// An answer that keeps nothing.
+fn refusal(outcome: u32) -> Answer {
+    Answer {
+        outcome,
+        ..Answer::default()
+    }
 }
 
 /// What is wrong with a read, if anything is.
@@ -206,12 +238,12 @@ fn wrong(before: &Lent, after: &Lent, answer: &Answer) -> Option<&'static str> {
         return (!same).then_some("behind the final answer");
     }
     if !before.fits() {
-        let refusal = Answer {
-            outcome: outcome::MISMATCH,
-            ..Answer::default()
-        };
-        let same = before == after && *answer == refusal;
+        let same = before == after && *answer == refusal(outcome::MISMATCH);
         return (!same).then_some("what doesn't fit");
+    }
+    if !before.is_ruled() {
+        let same = before == after && *answer == refusal(outcome::WRONG_RULE);
+        return (!same).then_some("what has no rule");
     }
     if *answer != after.held() {
         return Some("the parser doesn't hold the answer");
@@ -241,8 +273,8 @@ fn kept(before: &Lent, after: &Lent) -> Option<&'static str> {
     // The statement before is linked to the new one, wherever the parser said that it was.
     let same_nodes = after.nodes[..nodes.min(new_nodes)] == linked[..nodes.min(new_nodes)]
         || (p.last > p.nodes && q.ended == 0);
-    if p.way != q.way {
-        Some("the way")
+    if (p.rule, p.way) != (q.rule, q.way) {
+        Some("the rule or the way")
     } else if after.tokens != before.tokens || after.source != before.source || p.tokens != q.tokens
     {
         Some("the tokens")

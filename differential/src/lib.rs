@@ -2,6 +2,7 @@
 //!
 //! `cargo test -p differential` compares a sample, `cargo run --release -p differential -- lex
 //! COUNT SEED` as many lexings as are wanted, with `read` whole readings, with `text` the text test.
+//! Each script is tried by both rules; rule two has the original with that rule's lines changed.
 //! All need the Rattle toolchain's `rt` on the PATH: it builds the library.
 
 pub mod blackout;
@@ -21,11 +22,12 @@ pub mod whole;
 use compare::{Difference, Trial};
 use expected::lex_scripts::{any_script, damaged, script};
 use expected::mixed_dice::Dice;
+use expected::scripts::{bytes, ruled};
 use lists::{
     all_of_length, longest, near_keywords, numbers_about_the_limits, singles_and_pairs, ALPHABET,
     IN_NUMBERS, IN_STRINGS,
 };
-use parse_scripts::{sequences, Scripts, DIVIDING, INDEXING, TOKENS};
+use parse_scripts::{sequences, Scripts, DIVIDING, INDEXING, RULING, TOKENS};
 use refusals::{about_the_longest, between_strings, decodings, rooms, text_edge, text_edges};
 use run::Comparison;
 use whole::reading;
@@ -85,6 +87,8 @@ pub fn scripts_of_all_kinds(
     comparison.group("all short numbers", numbers, Trial::whole)?;
     comparison.group("single bytes, pairs", singles_and_pairs(), Trial::whole)?;
     comparison.group("near keywords", near_keywords(), Trial::whole)?;
+    let listed = ruled().map(|text| bytes(&text));
+    comparison.group("about rules", listed, Trial::whole)?;
     let numbers = numbers_about_the_limits();
     comparison.group("numbers about limits", numbers, Trial::whole)?;
 
@@ -181,6 +185,8 @@ pub fn readings_of_all_kinds(
     comparison.group("sequences of some tokens", dividing, reading)?;
     let indexing = sequences(&INDEXING, sizes.tokens + 3);
     comparison.group("sequences of few tokens", indexing, reading)?;
+    let ruling = sequences(&RULING, sizes.tokens + 1);
+    comparison.group("sequences about rules", ruling, reading)?;
     let mut scripts = Scripts::new(seed);
     let grammar = (0..sizes.scripts).map(|_| scripts.grammar());
     comparison.group("statements of all forms", grammar, reading)?;

@@ -1,11 +1,11 @@
 //! Whole readings at their limits: rooms, levels, counts and lengths.
 
 use expected::records::{LONGEST, WIDTHS};
-use expected::scripts::{around, many, LISTED, MISLEXED, MORE_WAYS, SMALL, WAYS};
+use expected::scripts::{around, bytes, many, ruled, LISTED, MISLEXED, MORE_WAYS, SMALL, WAYS};
 use oracle::logged::LEVELS;
 
 use crate::compare::Trial;
-use crate::whole::Tried;
+use crate::whole::{by_rules, Tried};
 use expected::lex_scripts::{KEYWORDS, MARKS, WRONG};
 
 /// So many pairs of error and node rooms are all tried; of more, some.
@@ -14,7 +14,10 @@ const PAIRS: usize = 120;
 /// Readings with each room from none to one more than is needed, the others being enough; with
 /// error room and node room short together; and with no tables at all.
 pub fn rooms(source: &[u8]) -> Trial {
-    let mut tried = Tried::new(source);
+    by_rules(source, add_rooms)
+}
+
+fn add_rooms(tried: &mut Tried) {
     let enough = tried.needs().map(|room| room + 1);
     for table in 0..3 {
         for room in 0..=enough[table] {
@@ -38,35 +41,34 @@ pub fn rooms(source: &[u8]) -> Trial {
     }
     tried.read_with([0; 3], [0; 3]);
     tried.read_with([0; 3], WIDTHS.map(|width| width - 1));
-    tried.trial()
 }
 
 /// The same for long scripts: each room one less than is needed, exact and one more, in all
 /// combinations.
 pub fn edges(source: &[u8]) -> Trial {
-    let mut tried = Tried::new(source);
-    let needs = tried.needs();
-    for choice in 0..27 {
-        let shift = [choice % 3, choice / 3 % 3, choice / 9];
-        let rooms = [0, 1, 2].map(|table| (needs[table] + shift[table]).saturating_sub(1));
-        tried.read(rooms);
-    }
-    tried.read_with([0; 3], [0; 3]);
-    tried.trial()
+    by_rules(source, |tried| {
+        let needs = tried.needs();
+        for choice in 0..27 {
+            let shift = [choice % 3, choice / 3 % 3, choice / 9];
+            let rooms = [0, 1, 2].map(|table| (needs[table] + shift[table]).saturating_sub(1));
+            tried.read(rooms);
+        }
+        tried.read_with([0; 3], [0; 3]);
+    })
 }
 
 /// The same for very long scripts, and for very many: exact rooms, one less of each, and none.
 pub fn exact(source: &[u8]) -> Trial {
-    let mut tried = Tried::new(source);
-    let needs = tried.needs();
-    tried.read(needs);
-    for table in 0..3 {
-        let mut rooms = needs;
-        rooms[table] = rooms[table].saturating_sub(1);
-        tried.read(rooms);
-    }
-    tried.read_with([0; 3], [0; 3]);
-    tried.trial()
+    by_rules(source, |tried| {
+        let needs = tried.needs();
+        tried.read(needs);
+        for table in 0..3 {
+            let mut rooms = needs;
+            rooms[table] = rooms[table].saturating_sub(1);
+            tried.read(rooms);
+        }
+        tried.read_with([0; 3], [0; 3]);
+    })
 }
 
 /// The scripts of document 01, and those that the definition is tried on.
@@ -74,10 +76,7 @@ pub fn listed() -> impl Iterator<Item = Vec<u8>> {
     let plain = LISTED.into_iter().chain([MISLEXED]).flatten();
     let plain = plain.map(|text| text.to_string());
     let small = SMALL.iter().map(|(text, ..)| text.to_string());
-    // A character stands for a byte there.
-    plain
-        .chain(small)
-        .map(|text| text.chars().map(|c| c as u8).collect())
+    plain.chain(small).chain(ruled()).map(|text| bytes(&text))
 }
 
 /// Parameters and arguments about their limits, in all places that have them.
@@ -190,8 +189,8 @@ pub fn deepest() -> impl Iterator<Item = Vec<u8>> {
 /// some that make long lists, long chains or many statements. Newlines alone are too much for the
 /// original.
 fn fillers() -> impl Iterator<Item = String> {
-    let others = "a|a |1 |1a|\"s\"|\"\"|a\n|a\n\n|a;|a,|a.|a.a|a(|a()|a[|a[1]|a=|a+|a*a+|a-|[]|{}|()|a:|-a|!a|a# b\n\
-        |let a\n|fn f() a\n|while a b\n|if a {}|return\n|for a in b c\n";
+    let others = "a|a |1 |1a|a1|a1 |\"s\"|\"\"|a\n|a\n\n|a;|a,|a.|a.a|a(|a()|a[|a[1]|a=|a+|a*a+|a-|[]|{}|()|a:|-a|!a|a# b\n\
+        |let a\n|fn f() a\n|while a b\n|if a {}|return\n|for a in b c\n|for a in b c\nbreak\n";
     let marks = MARKS.into_iter().chain(WRONG).map(str::to_string);
     let keywords = KEYWORDS.map(|keyword| format!("{keyword} "));
     let others = others.split('|').map(str::to_string);
@@ -256,13 +255,13 @@ pub fn newlines() -> impl Iterator<Item = Vec<u8>> {
 
 /// Sources that are refused, or just not, in tables of any size: nothing may be touched.
 pub fn refusals(source: &[u8]) -> Trial {
-    let mut tried = Tried::new(source);
-    let needs = tried.needs();
-    let fewer = needs.map(|room| tried.below(room + 1));
-    for rooms in [needs, fewer, [0; 3]] {
-        tried.read(rooms);
-    }
-    tried.trial()
+    by_rules(source, |tried| {
+        let needs = tried.needs();
+        let fewer = needs.map(|room| tried.below(room + 1));
+        for rooms in [needs, fewer, [0; 3]] {
+            tried.read(rooms);
+        }
+    })
 }
 
 #[cfg(test)]
@@ -270,12 +269,12 @@ mod tests {
     use super::*;
     use expected::records::outcome::{DONE, TOO_DEEP};
     use expected::whole::Whole;
-    use oracle::on_large_stack;
+    use oracle::{on_large_stack, Rule};
 
     fn outcome(script: Vec<u8>) -> u32 {
         let script = String::from_utf8(script).expect("ASCII");
         on_large_stack(|| {
-            let whole = Whole::of(&script);
+            let whole = Whole::of(Rule::One, &script);
             whole.within(whole.needs()).outcome
         })
     }

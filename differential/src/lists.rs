@@ -35,14 +35,14 @@ pub fn singles_and_pairs() -> impl Iterator<Item = Vec<u8>> {
     singles.chain(pairs)
 }
 
-/// Each keyword, and each with one byte removed, put in or exchanged: letters of both sizes, `_`
-/// and what stands beside them in ASCII.
+/// Each keyword, and each with one byte removed, put in or exchanged: digits, letters of both sizes,
+/// `_` and what stands beside them in ASCII.
 pub fn near_keywords() -> impl Iterator<Item = Vec<u8>> {
     KEYWORDS.into_iter().flat_map(|keyword| {
         let word = keyword.as_bytes();
         let removed = (0..word.len()).map(move |at| [&word[..at], &word[at + 1..]].concat());
         let changed = (0..=word.len()).flat_map(move |at| {
-            (b'@'..=b'{').flat_map(move |byte| {
+            (b'/'..=b'{').flat_map(move |byte| {
                 let behind = &word[word.len().min(at + 1)..];
                 [&word[at..], behind].map(|rest| [&word[..at], &[byte], rest].concat())
             })
@@ -52,18 +52,21 @@ pub fn near_keywords() -> impl Iterator<Item = Vec<u8>> {
 }
 
 /// Numbers whose digits are about 2^53, or few, with the point at each place up to 24 from the
-/// right, and with zeros before; each followed by a newline.
+/// right, and with zeros before; each followed by a newline, and at the end.
 pub fn numbers_about_the_limits() -> impl Iterator<Item = Vec<u8>> {
     const EXACT: u64 = 1 << 53;
     let about = (EXACT - 64..EXACT + 64).chain(EXACT * 10 - 3..EXACT * 10 + 3);
     (0..12).chain(about).flat_map(|m| {
         (0..25).flat_map(move |places| {
-            [0, 1, 30].map(|zeros| {
+            let number = move |zeros: usize, end: &str| {
                 let digits = format!("{}{m:0>1$}", "0".repeat(zeros), places + 1);
                 let (whole, fraction) = digits.split_at(digits.len() - places);
                 let point = if places == 0 { "" } else { "." };
-                format!("{whole}{point}{fraction}\n").into_bytes()
-            })
+                format!("{whole}{point}{fraction}{end}").into_bytes()
+            };
+            [0, 1, 30]
+                .into_iter()
+                .flat_map(move |zeros| ["\n", ""].map(|end| number(zeros, end)))
         })
     })
 }
@@ -72,7 +75,7 @@ pub fn numbers_about_the_limits() -> impl Iterator<Item = Vec<u8>> {
 pub fn longest() -> impl Iterator<Item = Vec<u8>> {
     let others = [
         "a", "if ", "0", "1", "1 ", "0.", "1.5 ", "\"", "\"\"", "\"\\n", "\"\\q", "\"\n", "#",
-        "#\n", " ", "\r\n", "a\n", "\"a\"b", "@a", "1..", "!=!",
+        "#\n", " ", "\r\n", "a\n", "\"a\"b", "@a", "1..", "!=!", "a1", "if1 ", "_0.",
     ];
     let units = MARKS.into_iter().chain(WRONG).chain(others);
     let filled = units.map(|unit| {
@@ -81,7 +84,7 @@ pub fn longest() -> impl Iterator<Item = Vec<u8>> {
         script.extend(std::iter::repeat_n(' ', LONGEST - script.len()));
         script
     });
-    // With nothing behind it a number with a point stops the lexing.
+    // With nothing behind it a number with a point stops the lexing by rule one.
     let ends = ["0", ".", "\n", "\""];
     let numbers = ends.map(|end| format!("1.{}{end}", "5".repeat(LONGEST - 3)));
     filled.chain(numbers).map(String::into_bytes)

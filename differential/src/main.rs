@@ -1,4 +1,4 @@
-//! `differential lex COUNT SEED` and `differential read COUNT SEED` are the long runs;
+//! `differential lex COUNT SEED` and `differential read COUNT SEED` are the long runs, by both rules;
 //! `differential blackout COUNT SEED` tries what may be blacked out; `differential text` holds the text test against Rust's own;
 //! `differential show FILE` prints what the library makes of a script.
 
@@ -108,7 +108,7 @@ fn usage() -> ExitCode {
     eprintln!(
         "differential lex COUNT SEED: compares lexings of COUNT generated scripts and more\n\
          differential read COUNT SEED: compares whole readings of COUNT generated scripts and more\n\
-         differential blackout COUNT SEED: tries COUNT pairs that may be blacked out\n\
+         differential blackout COUNT SEED: tries COUNT pairs by each rule that may be blacked out\n\
          differential blackout random COUNT SEED: prints COUNT random ones for the prover\n\
          differential text: compares the text test on every sequence of up to three bytes and more\n\
          differential show FILE: prints the tokens and errors of a script"

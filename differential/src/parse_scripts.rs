@@ -71,6 +71,21 @@ pub const DIVIDING: [&str; 20] = [
 /// Those about indexes, slices and what is assigned to.
 pub const INDEXING: [&str; 8] = ["a ", "[ ", "] ", ": ", "\n", "= ", ". ", ", "];
 
+/// Those about what the rules differ in: loops and what may only stand in one, a name with a digit, and
+/// what is a number with a point at the end.
+pub const RULING: [&str; 10] = [
+    "for a in b ",
+    "for ;a;b ",
+    "while a ",
+    "fn f() ",
+    "{ ",
+    "} ",
+    "break ",
+    "\n",
+    "a1 ",
+    "1.",
+];
+
 /// All sequences of up to so many tokens.
 pub fn sequences(tokens: &'static [&str], most: u32) -> impl Iterator<Item = Vec<u8>> {
     (0..=most).flat_map(|n| all_of_length(tokens, n))
@@ -164,8 +179,8 @@ impl Scripts {
         script
     }
 
-    /// Tokens with blanks between them. Now and then a name, a number or a string is another, and a
-    /// comment or something that is no token stands between two.
+    /// Tokens with blanks between them, and in half of the scripts behind the last. Now and then a name,
+    /// a number or a string is another, and a comment or something that is no token stands between two.
     fn joined(&mut self, tokens: &[&str]) -> Vec<u8> {
         let mut script = String::new();
         for &token in tokens {
@@ -182,6 +197,9 @@ impl Scripts {
                     _ => " ",
                 };
             }
+        }
+        if self.dice.one_in(2) {
+            script.truncate(script.trim_end_matches(' ').len());
         }
         script.into_bytes()
     }

@@ -1,47 +1,70 @@
 //! Calls that must be refused, and calls at the edge of it: short tables, the greatest length, the
 //! text test, and decoding.
 
-use crate::compare::{Call, Trial};
+use crate::compare::{rules, Call, Trial};
 use crate::host::{DecodeCall, LexCall};
 use expected::lexing::{expect, expect_decoding, Lexing, LONGEST};
 use expected::mixed_dice::Dice;
 use expected::records::{ERROR_WORDS, TOKEN_WORDS};
 
-/// One lexing with each room from none to one more than is needed: for tokens with every spare
-/// tail and enough room for errors, the other way round, and both short at once.
+/// Lexings by each rule with each room from none to one more than is needed: for tokens with every
+/// spare tail and enough room for errors, the other way round, and both short at once.
 pub fn rooms(source: &[u8]) -> Trial {
     let mut dice = Dice::of(source);
     let mut trial = Trial::new(source, &mut dice);
-    let (full, _) = expect(source);
-    let (tokens, errors) = (full.tokens.len() + 1, full.errors.len() + 1);
-    for tail in 0..TOKEN_WORDS {
-        for room in 0..=tokens {
-            let (token_words, error_words) = (TOKEN_WORDS * room + tail, ERROR_WORDS * errors);
-            trial.lex(&full, token_words, error_words, &mut dice);
+    for rule in rules(source, &mut dice) {
+        let full = Full::of(rule, source);
+        let (tokens, errors) = full.counts();
+        let (tokens, errors) = (tokens + 1, errors + 1);
+        for tail in 0..TOKEN_WORDS {
+            for room in 0..=tokens {
+                let (token_words, error_words) = (TOKEN_WORDS * room + tail, ERROR_WORDS * errors);
+                trial.lex(&full, token_words, error_words, &mut dice);
+            }
         }
-    }
-    for tail in 0..ERROR_WORDS {
-        for room in 0..=errors {
-            let (token_words, error_words) = (TOKEN_WORDS * tokens, ERROR_WORDS * room + tail);
-            trial.lex(&full, token_words, error_words, &mut dice);
+        for tail in 0..ERROR_WORDS {
+            for room in 0..=errors {
+                let (token_words, error_words) = (TOKEN_WORDS * tokens, ERROR_WORDS * room + tail);
+                trial.lex(&full, token_words, error_words, &mut dice);
+            }
         }
-    }
-    for token_room in 0..=tokens {
-        for error_room in 0..=errors {
-            let token_words = TOKEN_WORDS * token_room + dice.below(TOKEN_WORDS);
-            let error_words = ERROR_WORDS * error_room + dice.below(ERROR_WORDS);
-            trial.lex(&full, token_words, error_words, &mut dice);
+        for token_room in 0..=tokens {
+            for error_room in 0..=errors {
+                let token_words = TOKEN_WORDS * token_room + dice.below(TOKEN_WORDS);
+                let error_words = ERROR_WORDS * error_room + dice.below(ERROR_WORDS);
+                trial.lex(&full, token_words, error_words, &mut dice);
+            }
         }
+        trial.lex(&full, 0, 0, &mut dice);
     }
-    trial.lex(&full, 0, 0, &mut dice);
     trial
 }
 
+/// What a lexing by a rule comes to with room enough.
+struct Full {
+    rule: u32,
+    lexing: Lexing,
+}
+
+impl Full {
+    fn of(rule: u32, source: &[u8]) -> Full {
+        let (lexing, _) = expect(rule, source);
+        Full { rule, lexing }
+    }
+
+    /// How many tokens and errors there are.
+    fn counts(&self) -> (usize, usize) {
+        (self.lexing.tokens.len(), self.lexing.errors.len())
+    }
+}
+
 impl Trial {
-    /// Adds a lexing with tables of so many words; `full` is what it comes to with room enough.
-    fn lex(&mut self, full: &Lexing, token_words: usize, error_words: usize, dice: &mut Dice) {
-        let want = full.within(token_words / TOKEN_WORDS, error_words / ERROR_WORDS);
+    /// Adds a lexing with tables of so many words.
+    fn lex(&mut self, full: &Full, token_words: usize, error_words: usize, dice: &mut Dice) {
+        let (token_room, error_room) = (token_words / TOKEN_WORDS, error_words / ERROR_WORDS);
+        let want = full.lexing.within(token_room, error_room);
         let call = LexCall {
+            rule: full.rule,
             token_words,
             error_words,
             fill: dice.word() as u32,
@@ -78,15 +101,17 @@ pub fn decodings(source: &[u8]) -> Trial {
     trial
 }
 
-/// A lexing with some room and a decoding at the start, for sources of about the greatest length.
+/// Lexings with some room and a decoding at the start, for sources of about the greatest length.
 pub fn sizes(source: &[u8]) -> Trial {
     let mut dice = Dice::of(source);
     let mut trial = Trial::whole(source);
-    let (full, _) = expect(source);
-    trial.lex(&full, 0, 0, &mut dice);
-    trial.lex(&full, 30, 10, &mut dice);
-    let needed = TOKEN_WORDS * full.tokens.len();
-    trial.lex(&full, needed.saturating_sub(1), 10, &mut dice);
+    for rule in rules(source, &mut dice) {
+        let full = Full::of(rule, source);
+        trial.lex(&full, 0, 0, &mut dice);
+        trial.lex(&full, 30, 10, &mut dice);
+        let needed = TOKEN_WORDS * full.counts().0;
+        trial.lex(&full, needed.saturating_sub(1), 10, &mut dice);
+    }
     for start in [0, 1, source.len().saturating_sub(1)] {
         trial.decode(start as u64, 8, &mut dice);
     }
@@ -134,13 +159,15 @@ pub fn text_edges() -> impl Iterator<Item = Vec<u8>> {
     })
 }
 
-/// A lexing of the bytes, and where they are no text also with short tables and a decoding: such a
-/// refusal comes before any other.
+/// Lexings of the bytes, and where they are no text also with short tables and a decoding: such a
+/// refusal comes before any other but that of a rule.
 pub fn text_edge(source: &[u8]) -> Trial {
     let mut dice = Dice::of(source);
     let mut trial = Trial::whole(source);
-    let (full, _) = expect(source);
-    trial.lex(&full, dice.below(30), dice.below(12), &mut dice);
+    for rule in rules(source, &mut dice) {
+        let (token_words, error_words) = (dice.below(30), dice.below(12));
+        trial.lex(&Full::of(rule, source), token_words, error_words, &mut dice);
+    }
     trial.decode(dice.below(6) as u64, dice.below(4), &mut dice);
     trial
 }

@@ -6,9 +6,9 @@ use std::fmt;
 use std::time::Instant;
 
 use crate::compare::{run, Call, Difference, Trial};
-use crate::host::{Host, ReadCall};
+use crate::host::{Host, LexCall, ReadCall};
 use crate::whole::Wanted;
-use expected::records::{error, node, way};
+use expected::records::{error, node, rule, way};
 
 /// How often a smaller script is tried: some that differ by their length alone can't get smaller.
 const TRIES: usize = 2_000;
@@ -42,13 +42,11 @@ impl Group {
         self.scripts += 1;
         for call in &trial.calls {
             let name = match call {
-                Call::Lex(_, lexing) => format!("lex {}", lexing.outcome),
-                Call::Decode(_, decoding) => format!("decode {}", decoding.outcome),
-                Call::Read(ReadCall { way, pair, .. }, wanted) => {
-                    let new = if *way == way::STOP { "new " } else { "" };
-                    let what = if *pair { "pair" } else { "read" };
-                    format!("{new}{what} {}", wanted.outcome())
+                Call::Lex(LexCall { rule, .. }, lexing) => {
+                    format!("{}lex {}", by(*rule), lexing.outcome)
                 }
+                Call::Decode(_, decoding) => format!("decode {}", decoding.outcome),
+                Call::Read(call, wanted) => format!("{} {}", called(call), wanted.outcome()),
             };
             *self.calls.entry(name).or_default() += 1;
             if let Call::Read(_, Wanted::Exact(answer, _)) = call {
@@ -59,6 +57,22 @@ impl Group {
             }
         }
     }
+}
+
+/// What a call by a rule is counted as.
+fn by(rule: u32) -> &'static str {
+    match rule {
+        rule::ONE => "",
+        rule::TWO => "two ",
+        _ => "none ",
+    }
+}
+
+/// What a reading is counted as.
+fn called(call: &ReadCall) -> String {
+    let new = if call.way == way::STOP { "new " } else { "" };
+    let what = if call.pair { "pair" } else { "read" };
+    format!("{}{new}{what}", by(call.rule))
 }
 
 impl fmt::Display for Group {

@@ -5,7 +5,7 @@ use std::collections::BTreeSet;
 use std::fmt;
 
 use expected::lexing::{is_text, WELL_FORMED};
-use expected::records::outcome;
+use expected::records::{outcome, rule};
 use kettleplume::border::scan;
 
 /// The longest sequence that is well-formed by itself.
@@ -76,7 +76,7 @@ fn agreed(bytes: &[u8]) -> Result<bool, String> {
     let rust = std::str::from_utf8(bytes).is_ok();
     let table = is_text(bytes);
     // In tables without room nothing comes of a text either, but the refusal is another one.
-    let answer = scan(bytes, &mut [], &mut []);
+    let answer = scan(rule::ONE, bytes, &mut [], &mut []);
     let library = answer.outcome != outcome::NO_TEXT;
     if [table, library] != [rust; 2] || (answer.tokens, answer.errors) != (0, 0) {
         return Err(format!(

@@ -3,11 +3,14 @@
 use std::fmt::Write as _;
 use std::rc::Rc;
 
-use expected::records::{way, Error, Node, Token, ERROR_WORDS, NODE_WORDS, TOKEN_WORDS, WIDTHS};
+use expected::lexing::rust_string;
+use expected::records::{
+    rule, way, Error, Node, Token, ERROR_WORDS, NODE_WORDS, TOKEN_WORDS, WIDTHS,
+};
 use expected::whole::{known, Answer, Known, Whole};
 use kettleplume::Rooms;
 
-use crate::compare::{table_differs, Call, Trial};
+use crate::compare::{rules, table_differs, Call, Trial};
 use crate::host::{ReadAnswer, ReadCall};
 use expected::mixed_dice::Dice;
 
@@ -17,13 +20,21 @@ const LONG: usize = 4096;
 /// What a reading must come to.
 #[derive(Debug, Clone)]
 pub enum Wanted {
-    /// The answer, and what the original makes of the script if it was asked.
+    /// The answer, and what the original makes of the script where its trees are compared.
     Exact(Answer, Option<Rc<Whole>>),
     /// A refusal that keeps nothing and leaves all tables as they were.
     Refused(u32),
 }
 
 impl Wanted {
+    /// The same, with the trees left out: they are those of the words, which are unfolded elsewhere.
+    fn by_words(self) -> Wanted {
+        match self {
+            Wanted::Exact(answer, _) => Wanted::Exact(answer, None),
+            refused => refused,
+        }
+    }
+
     /// The outcome, for counting.
     pub fn outcome(&self) -> u32 {
         match self {
@@ -33,8 +44,9 @@ impl Wanted {
     }
 }
 
-/// A source of which readings are tried.
+/// A source of which readings are tried by a rule.
 pub struct Tried {
+    rule: u32,
     known: Kept,
     dice: Dice,
     trial: Trial,
@@ -47,28 +59,65 @@ enum Kept {
     Told(Answer),
 }
 
-impl Tried {
-    pub fn new(source: &[u8]) -> Tried {
-        let mut dice = Dice::of(source);
-        let trial = Trial::new(source, &mut dice);
-        let known = match known(source) {
-            Known::Read(whole) => {
-                enough(source, whole.needs());
-                Kept::Read(Rc::new(*whole))
-            }
-            Known::Refused(outcome) => Kept::Refused(outcome),
-        };
-        Tried { known, dice, trial }
-    }
-
-    /// A source that the original isn't asked about, with the answer, which needs room enough.
-    pub fn told(source: &[u8], answer: Answer) -> Tried {
-        let mut dice = Dice::of(source);
-        Tried {
-            trial: Trial::new(source, &mut dice),
-            known: Kept::Told(answer),
-            dice,
+/// What is known about a source by a rule.
+fn kept_of(rule: u32, source: &[u8]) -> Kept {
+    match known(rule, source) {
+        Known::Read(whole) => {
+            enough(source, whole.needs());
+            Kept::Read(Rc::new(*whole))
         }
+        Known::Refused(outcome) => Kept::Refused(outcome),
+    }
+}
+
+/// The same calls by each rule; now and then by a number that names none, which refuses them.
+pub fn by_rules(source: &[u8], add: impl Fn(&mut Tried)) -> Trial {
+    let mut dice = Dice::of(source);
+    let trial = Trial::new(source, &mut dice);
+    let rules = rules(source, &mut dice);
+    let mut tried = Tried {
+        rule: rules[0],
+        known: kept_of(rules[0], source),
+        dice,
+        trial,
+    };
+    add(&mut tried);
+    for rule in &rules[1..] {
+        tried.turn_to(*rule);
+        add(&mut tried);
+    }
+    tried.trial
+}
+
+/// The same where the original isn't asked: both rules must come to this answer, which needs room
+/// enough.
+pub fn told(source: &[u8], answer: &Answer, add: impl Fn(&mut Tried)) -> Trial {
+    let mut dice = Dice::of(source);
+    let mut tried = Tried {
+        rule: rule::ONE,
+        trial: Trial::new(source, &mut dice),
+        known: Kept::Told(answer.clone()),
+        dice,
+    };
+    for rule in [rule::ONE, rule::TWO] {
+        tried.rule = rule;
+        add(&mut tried);
+    }
+    tried.trial
+}
+
+impl Tried {
+    /// Goes on by another rule. Asking the original takes longest, and most scripts are the same by both.
+    fn turn_to(&mut self, rule: u32) {
+        let source = &self.trial.source;
+        let is_same = match &self.known {
+            Kept::Read(one) => rule == rule::TWO && one.is_rule_twos(rust_string(source)),
+            _ => false,
+        };
+        if !is_same {
+            self.known = kept_of(rule, source);
+        }
+        self.rule = rule;
     }
 
     /// The rooms that the reading needs.
@@ -96,6 +145,7 @@ impl Tried {
 
     fn read_on(&mut self, way: u32, rooms: [usize; 3], tails: [usize; 3]) {
         let call = ReadCall {
+            rule: self.rule,
             way,
             pair: false,
             token_words: TOKEN_WORDS * rooms[0] + tails[0],
@@ -111,17 +161,19 @@ impl Tried {
         // Each read of one statement looks at all tokens: in a long script that takes long.
         if self.trial.source.len() <= LONG {
             let pair = ReadCall { pair: true, ..call };
-            self.trial.calls.push(Call::Read(pair, wanted.clone()));
+            let wanted = wanted.clone().by_words();
+            self.trial.calls.push(Call::Read(pair, wanted));
         }
+        // On the new way the statements are the same or none.
+        let wanted = match way {
+            way::STOP => wanted.by_words(),
+            _ => wanted,
+        };
         self.trial.calls.push(Call::Read(call, wanted));
     }
 
     pub fn below(&mut self, limit: usize) -> usize {
         self.dice.below(limit)
-    }
-
-    pub fn trial(self) -> Trial {
-        self.trial
     }
 }
 
@@ -135,12 +187,12 @@ fn enough(source: &[u8], [tokens, errors, nodes]: [usize; 3]) {
     );
 }
 
-/// One reading with room enough: sometimes exactly enough, sometimes with records to spare.
+/// One reading by each rule with room enough: sometimes exactly enough, sometimes with records to spare.
 pub fn reading(source: &[u8]) -> Trial {
-    let mut tried = Tried::new(source);
-    let rooms = tried.needs().map(|room| room + tried.below(3));
-    tried.read(rooms);
-    tried.trial()
+    by_rules(source, |tried| {
+        let rooms = tried.needs().map(|room| room + tried.below(3));
+        tried.read(rooms);
+    })
 }
 
 /// Compares one answer; if it differs, a text that shows how.

@@ -6,7 +6,8 @@ use vectors::blackout::premise::{Clause, CLAUSES};
 #[test]
 fn random_pairs() {
     let report = blackout(None, 5_000, 1).unwrap_or_else(|e| panic!("{e}"));
-    assert_eq!(report.pairs, 5_000);
+    // By each rule.
+    assert_eq!(report.pairs, 10_000);
     for clause in CLAUSES {
         // A first script is always text within the limit here.
         let tried = !matches!(clause, Clause::Limit | Clause::FirstText);

@@ -44,9 +44,9 @@ fn the_text_test_is_rusts_own() {
 #[test]
 fn what_may_be_blacked_out_is_lexed_alike() {
     let report = blackout(Some(&mut Host::start()), 2_000, SEED).unwrap_or_else(|e| panic!("{e}"));
-    // On both ways.
-    assert_eq!(report.library.values().sum::<u64>(), 4_000);
-    assert!(report.library[&outcome::NOT_PARSED] > 50, "{report}");
+    // By both rules and on both ways.
+    assert_eq!(report.library.values().sum::<u64>(), 8_000);
+    assert!(report.library[&outcome::NOT_PARSED] > 100, "{report}");
 }
 
 #[test]

@@ -2,14 +2,15 @@
 //! of `read.rs`; here are parsers and tables that no call left.
 
 use differential::lent::{damaged, Lent, KINDS, READ};
-use expected::records::outcome::{DONE, MISMATCH, MORE, STOPPED};
-use expected::records::{message, way, ERROR_WORDS, TOKEN_WORDS, WIDTHS};
+use expected::records::outcome::{DONE, MISMATCH, MORE, STOPPED, WRONG_RULE};
+use expected::records::{message, ERROR_WORDS, TOKEN_WORDS, WIDTHS};
 use kettleplume::border::{Answer, Parser};
+use kettleplume::Options;
 
 #[test]
 fn any_parser_and_any_tables_get_an_answer() {
     let counts = damaged(500_000, 1).unwrap_or_else(|what| panic!("{what}"));
-    for outcome in READ.into_iter().chain([MISMATCH]) {
+    for outcome in READ.into_iter().chain([MISMATCH, WRONG_RULE]) {
         assert!(
             counts.contains_key(&outcome),
             "no {outcome} among {counts:?}"
@@ -20,7 +21,7 @@ fn any_parser_and_any_tables_get_an_answer() {
 /// What begin leaves of a source in tables with these rooms.
 fn begun(source: &[u8], rooms: [usize; 3]) -> Lent {
     let words = [0, 1, 2].map(|table| WIDTHS[table] * rooms[table]);
-    Lent::begun(way::GO_ON, source, words, 7, 0)
+    Lent::begun(Parser::new(Options::ORIGINAL), source, words, 7, 0)
 }
 
 /// A parser that nothing was begun with.
@@ -52,15 +53,25 @@ fn each_condition_is_asked() {
         |l| l.tokens[TOKEN_WORDS * 2] = 0,
         |l| l.tokens.truncate(TOKEN_WORDS * 5 - 1),
     ];
-    let read: [Change; 6] = [
+    let read: [Change; 7] = [
         |l| l.parser.errors = 1,
         |l| l.parser.last = 4,
         |l| l.parser.loops = 5,
         |l| l.parser.first = u32::MAX,
         |l| l.parser.outcome = 77,
         |l| l.parser.way = 0,
+        |l| l.parser.rule = 2,
     ];
-    for (changes, outcome) in [(&refused[..], MISMATCH), (&read[..], DONE)] {
+    let ruleless: [Change; 3] = [
+        |l| l.parser.rule = 0,
+        |l| l.parser.rule = 3,
+        |l| l.parser.rule = u32::MAX,
+    ];
+    for (changes, outcome) in [
+        (&refused[..], MISMATCH),
+        (&ruleless[..], WRONG_RULE),
+        (&read[..], DONE),
+    ] {
         for (index, change) in changes.iter().enumerate() {
             let mut lent = begun(b"a = 1\n", [5, 1, 4]);
             assert_eq!(lent.parser.outcome, MORE);
@@ -68,7 +79,38 @@ fn each_condition_is_asked() {
             let before = lent.clone();
             let answer = lent.next();
             assert_eq!(answer.outcome, outcome, "change {index}");
-            assert_eq!(lent == before, outcome == MISMATCH, "change {index}");
+            assert_eq!(lent == before, outcome != DONE, "change {index}");
+        }
+    }
+}
+
+/// 18 comes before 13, and the final answer before both.
+#[test]
+fn what_is_asked_first() {
+    let mut lent = begun(b"a\n", [3, 1, 2]);
+    (lent.parser.rule, lent.parser.current) = (0, 3);
+    assert_eq!(lent.next().outcome, MISMATCH);
+    lent.parser.ended = 1;
+    lent.parser.outcome = 77;
+    assert_eq!(lent.next().outcome, 77);
+}
+
+/// Where the rule is changed between two calls, the loop count is what the last call left, and each read
+/// gives back what its own rule says.
+#[test]
+fn a_rule_is_each_reads_own() {
+    // By rule one the loop stays open, by rule two the second one is left.
+    for (rules, loops) in [
+        ([1, 1], [1, 2]),
+        ([1, 2], [1, 1]),
+        ([2, 1], [0, 1]),
+        ([2, 2], [0, 0]),
+    ] {
+        let mut lent = begun(b"for a in b {}\nfor a in b {}\nc\n", [17, 1, 12]);
+        for (rule, count) in rules.into_iter().zip(loops) {
+            lent.parser.rule = rule;
+            assert_eq!(lent.next().outcome, MORE);
+            assert_eq!(lent.parser.loops, count, "{rules:?}");
         }
     }
 }

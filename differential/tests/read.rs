@@ -3,7 +3,7 @@
 use differential::compare::Difference;
 use differential::run::Comparison;
 use differential::{longest_readings, readings_at_limits, readings_of_all_kinds, ReadSizes};
-use expected::records::outcome::NOT_PARSED;
+use expected::records::outcome::{NOT_PARSED, POINT_AT_END, WRONG_RULE};
 use expected::records::{kind, message};
 use oracle::on_large_stack;
 
@@ -24,8 +24,8 @@ fn scripts() {
     compare(readings_of_all_kinds);
 }
 
-/// The listed scripts among them have every message and every kind of node; and every call is made on
-/// both ways.
+/// The listed scripts among them have every message and every kind of node; and every call is made by
+/// both rules, on both ways, and some by a number that names no rule.
 #[test]
 fn limits() {
     compare(|comparison, sizes, seed| {
@@ -39,10 +39,27 @@ fn limits() {
                 .map(|(_, count)| count)
                 .sum()
         };
-        for what in ["read ", "pair "] {
-            assert_eq!(calls(what), calls(&format!("new {what}")));
-            let stopped = calls(&format!("new {what}{NOT_PARSED}"));
-            assert!(stopped > 1_000, "{what}{stopped}");
+        for what in [
+            "read ",
+            "pair ",
+            "two read ",
+            "two pair ",
+            "none read ",
+            "none pair ",
+        ] {
+            let (rule, call) = what.split_at(what.len() - "read ".len());
+            let new = format!("{rule}new {call}");
+            assert_eq!(calls(what), calls(&new), "{what}");
+            if rule == "none " {
+                assert_eq!(calls(&format!("{what}{WRONG_RULE}")), calls(what));
+                assert!(calls(what) > 100, "{what}");
+            } else {
+                assert!(calls(&format!("{new}{NOT_PARSED}")) > 1_000, "{new}");
+            }
+        }
+        for way in ["", "new "] {
+            assert_eq!(calls(&format!("two {way}read {POINT_AT_END}")), 0);
+            assert!(calls(&format!("{way}read {POINT_AT_END}")) > 100);
         }
         Ok(())
     });

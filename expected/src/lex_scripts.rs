@@ -86,17 +86,25 @@ fn piece(dice: &mut Dice, script: &mut String) {
     }
 }
 
-/// A name that is near a keyword: longer, shorter, with another letter or in capitals.
+/// A name that is near a keyword: longer, shorter, with another letter or in capitals, or with a digit
+/// in it or behind it, which rule one doesn't have in names.
 pub fn name(dice: &mut Dice, script: &mut String) {
     let keyword = dice.pick(&KEYWORDS);
     let letter = char::from(b"abfnstz_AZ"[dice.below(10)]);
+    let digit = char::from(b"0189"[dice.below(4)]);
     let cut = dice.below(keyword.len());
-    match dice.below(6) {
+    match dice.below(8) {
         0 => script.extend([keyword, dice.pick(&KEYWORDS)]),
         1 => script.extend(keyword.chars().chain([letter])),
         2 => *script += &keyword[cut..],
         3 => *script += &keyword[..cut],
         4 => *script += &keyword.to_uppercase(),
+        5 => script.extend(keyword.chars().chain([digit])),
+        6 => {
+            *script += &keyword[..cut];
+            script.push(digit);
+            *script += &keyword[cut..];
+        }
         _ => {
             *script += &keyword[..cut];
             script.push(letter);

@@ -8,10 +8,11 @@ use std::ops::RangeInclusive;
 
 use oracle::state::InterpreterError;
 use oracle::token::{Literal, TokenData};
-use oracle::{message_number, Reading, Stop};
+use oracle::{message_number, Reading, Rule, Stop};
 
 use crate::records::{self, message, outcome, sort};
 pub use crate::records::{Error, Token, LONGEST};
+use crate::rules;
 
 /// What lexing comes to.
 #[derive(Debug, Clone, PartialEq, Eq)]
@@ -35,16 +36,24 @@ pub struct Text {
     pub bytes: Vec<u8>,
 }
 
-/// The answer to a source of any bytes if there is room enough, and the strings' texts: 4 is tested
-/// first, then 3.
-pub fn expect(source: &[u8]) -> (Lexing, Vec<Text>) {
-    let refused = |outcome| (Lexing::refused(outcome), vec![]);
+/// The answer to a rule's number and a source of any bytes if there is room enough, and the strings'
+/// texts.
+pub fn expect(rule: u32, source: &[u8]) -> (Lexing, Vec<Text>) {
+    match readable(rule, source) {
+        Ok((rule, script)) => Lexing::of(rule, script),
+        Err(outcome) => (Lexing::refused(outcome), vec![]),
+    }
+}
+
+/// What the original is given, or the outcome that refuses it: 13 is tested first, then 4, then 3.
+pub fn readable(rule: u32, source: &[u8]) -> Result<(Rule, &str), u32> {
+    let rule = rules::named(rule).ok_or(outcome::WRONG_RULE)?;
     if source.len() > LONGEST {
-        refused(outcome::TOO_LONG)
+        Err(outcome::TOO_LONG)
     } else if !is_text(source) {
-        refused(outcome::NO_TEXT)
+        Err(outcome::NO_TEXT)
     } else {
-        Lexing::of(rust_string(source))
+        Ok((rule, rust_string(source)))
     }
 }
 
@@ -86,7 +95,7 @@ pub fn rust_string(source: &[u8]) -> &str {
 }
 
 impl Lexing {
-    /// Outcomes 3 and 4 keep nothing.
+    /// Outcomes 3, 4 and 13 keep nothing.
     fn refused(outcome: u32) -> Lexing {
         Lexing {
             outcome,
@@ -95,9 +104,9 @@ impl Lexing {
         }
     }
 
-    /// What the original does with a script, as records.
-    pub fn of(script: &str) -> (Lexing, Vec<Text>) {
-        Lexing::of_reading(script, &oracle::lex(script))
+    /// What the original does with a script by a rule, as records.
+    pub fn of(rule: Rule, script: &str) -> (Lexing, Vec<Text>) {
+        Lexing::of_reading(script, &oracle::lex_by(rule, script))
     }
 
     /// The same from the original's lexing of the script.
@@ -319,7 +328,7 @@ mod tests {
     #[test]
     fn places_of_tokens() {
         let script = "a #a\n \"\\q\"a\"@ 1.5.!";
-        let (lexing, texts) = Lexing::of(script);
+        let (lexing, texts) = Lexing::of(Rule::One, script);
         assert_eq!(lexing.outcome, 0);
         let places: Vec<_> = lexing.tokens.iter().map(|t| (t[0], t[1], t[2])).collect();
         let expected = [
@@ -357,7 +366,7 @@ mod tests {
 
     #[test]
     fn the_first_event_decides() {
-        let (full, _) = Lexing::of("a@b");
+        let (full, _) = Lexing::of(Rule::One, "a@b");
         let outcome = |tokens, errors| {
             let l = full.within(tokens, errors);
             (l.outcome, l.tokens.len(), l.errors.len())

@@ -2,7 +2,7 @@
 //!
 //! `lexing` has the tokens and errors as records, `nodes` turns the original's trees into node
 //! records, `unfold` turns node records back into trees, and `whole` has the answer for tables of
-//! any size.
+//! any size. Rule two's answers come from the original with that rule's three lines changed.
 
 pub mod dice;
 pub mod lex_scripts;
@@ -11,6 +11,7 @@ pub mod maker;
 pub mod marks;
 pub mod mixed_dice;
 pub mod nodes;
+pub mod rules;
 pub mod scripts;
 pub mod spellings;
 pub mod whole;

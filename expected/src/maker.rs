@@ -1,4 +1,5 @@
-//! A maker of random scripts: soups of tokens, and statements of the grammar, whole or with slips.
+//! A maker of random scripts: soups of tokens, and statements of the grammar, whole or with slips. Now
+//! and then there is something that the rules read differently.
 
 use crate::dice::Dice;
 
@@ -10,6 +11,12 @@ const SOUP: [&str; 72] = [
     "and", "or", "not", "class", "else", "fn", "for", "if", "elif", "return", "break", "continue",
     "super", "this", "let", "while", "in", "try", "catch", "!",
 ];
+
+/// Names that are one token by rule two, and more by rule one.
+const WITH_DIGITS: [&str; 4] = ["a1", "b2c", "_0", "in9"];
+
+/// Numbers that rule two alone has at the end.
+const AT_END: [&str; 3] = ["1.5", "2.", "0.25"];
 
 /// A maker of scripts, as lists of tokens.
 pub struct Maker {
@@ -46,8 +53,29 @@ impl Maker {
     }
 
     fn name(&mut self, out: &mut Vec<&'static str>, _: usize) {
-        let name = self.pick(&["a", "b", "c"]);
+        let name = match self.roll(40) {
+            0 => self.pick(&WITH_DIGITS),
+            _ => self.pick(&["a", "b", "c"]),
+        };
         out.push(name);
+    }
+
+    /// Now and then an enhanced for, and then what may only stand in a loop.
+    fn loop_left(&mut self, out: &mut Vec<&'static str>, depth: usize) {
+        if self.roll(12) == 0 {
+            self.enhanced_for(out, depth);
+            out.extend(["\n", self.pick(&["break", "continue"]), "\n"]);
+        }
+    }
+
+    fn enhanced_for(&mut self, out: &mut Vec<&'static str>, depth: usize) {
+        out.extend(["for", "a"]);
+        if self.roll(2) == 0 {
+            out.extend([",", "b"]);
+        }
+        out.push("in");
+        self.expr(out, depth);
+        self.stmt(out, depth);
     }
 
     fn primary(&mut self, out: &mut Vec<&'static str>, depth: usize) {
@@ -179,6 +207,7 @@ impl Maker {
                 out.push("\n");
             }
         }
+        self.loop_left(out, depth);
         out.push("}");
     }
 
@@ -229,15 +258,7 @@ impl Maker {
                 self.expr(out, depth);
                 self.stmt(out, depth);
             }
-            7 => {
-                out.extend(["for", "a"]);
-                if self.roll(2) == 0 {
-                    out.extend([",", "b"]);
-                }
-                out.push("in");
-                self.expr(out, depth);
-                self.stmt(out, depth);
-            }
+            7 => self.enhanced_for(out, depth),
             8 => {
                 out.push("while");
                 self.expr(out, depth);
@@ -283,6 +304,7 @@ impl Maker {
             let depth = 1 + self.roll(3);
             self.stmt(&mut out, depth);
             out.push("\n");
+            self.loop_left(&mut out, depth - 1);
         }
         out
     }
@@ -317,6 +339,9 @@ impl Maker {
                 .flat_map(|t| [vec![*t], vec!["\n"; [0, 0, 0, 1, 2][self.roll(5)]]].concat())
                 .collect();
             tokens = with;
+        }
+        if self.roll(20) == 0 {
+            tokens.push(self.pick(&AT_END));
         }
         tokens
     }

@@ -1,5 +1,5 @@
 //! Scripts that each show something: those of document 01, each form of statement and expression,
-//! each message, newlines, left sides of `=`, small tables and levels.
+//! each message, newlines, left sides of `=`, small tables, both rules and levels.
 
 /// An inner text in a number of brackets.
 pub fn around(open: &str, count: usize, inner: &str, close: &str) -> String {
@@ -9,6 +9,12 @@ pub fn around(open: &str, count: usize, inner: &str, close: &str) -> String {
 /// A number of names, with commas between them.
 pub fn many(count: usize) -> String {
     vec!["a"; count].join(",")
+}
+
+/// The bytes of a script in which a character stands for a byte.
+pub fn bytes(text: &str) -> Vec<u8> {
+    let byte = |c| u8::try_from(u32::from(c)).expect("a byte");
+    text.chars().map(byte).collect()
 }
 
 /// Document 01, the scripts marked *.
@@ -252,6 +258,133 @@ pub const MISLEXED_SMALL: &[(&str, [u32; 2], [usize; 3], [[usize; 3]; 2])] = &[
     ("a $ b", [11, 6], [4, 1, 9], [[4, 1, 0]; 2]),
     ("a $ b", [11, 7], [4, 2, 0], [[4, 1, 0]; 2]),
     ("a\n$ b", [11, 7], [5, 1, 2], [[5, 1, 0], [5, 1, 1]]),
+];
+
+/// Scripts in which the rules differ, or might: names, numbers at the end, and what stands in and behind
+/// an enhanced for. A character is a byte.
+pub const RULED: &[&str] = &[
+    "a1",
+    "_1",
+    "1a\n",
+    "a1b2 = 3",
+    "1e5",
+    "1.5a",
+    "a1.5\n",
+    "a.b1.c2",
+    "if2 = 3\n",
+    "nil0",
+    "\u{c3}\u{a9}1",
+    "for x1 in y2 {}\n",
+    "1.5",
+    "1.",
+    "a = 1.5",
+    "a = [1.5",
+    "1..5",
+    "\"1.5",
+    "for x in y {}\nbreak\n",
+    "for x in y for z in w {}\ncontinue",
+    "while a { for x in y {} break }\n",
+    "for ; a; b { for x in y {} break }",
+    "fn f() { for x in y {} }\nbreak\n",
+    "for x in y {\n",
+];
+
+/// Further ones.
+pub const MORE_RULED: &[&str] = &[
+    // Names, and what is none.
+    "x_9",
+    "A0 = z9\n",
+    "__1__",
+    "a9_9",
+    "9a9a9",
+    "a1 b2 c3\n",
+    "for1",
+    "for1 = 2\n",
+    "true1 false0 in2\n",
+    "not1",
+    "if 2 {}\n",
+    "classic9(a0)",
+    "class A1 < B2 { m3(p4) this.x5 class s6() a7 }\n",
+    "let a1 = 2\n",
+    "fn f1(a1, b2) { return a1 + b2 }\n",
+    "let f = fn(a1) a1\n",
+    "try a1 catch e2 b3\n",
+    "super.m1(a2)\n",
+    "this.a1[b2:c3] = d4\n",
+    "a1!",
+    "a1\"b",
+    "a1#b2",
+    "1\u{c3}\u{a9}",
+    "a1\u{c3}\u{a9}",
+    "1_000",
+    "1.a",
+    "1.e5\n",
+    // Numbers with a point, at the end and before it.
+    "0.5",
+    "00.",
+    "-1.",
+    "(1.",
+    "{1.5",
+    "f(1.5",
+    "a[1.",
+    "1.5.",
+    "1.5.2",
+    "1..",
+    "1...",
+    "a1.",
+    "a1.5",
+    "1.5 ",
+    "1.#",
+    "! 1.",
+    "@ 1.5",
+    "\"a\" 1.5",
+    "\"\\q\" 1.",
+    "9007199254740993.",
+    "0.00000000000000000000001",
+    // Loops.
+    "for x in y {}\nfor z in w {}\nbreak",
+    "for x in y { break }\ncontinue",
+    "for x in y break\nbreak",
+    "for x in y { for z in w {} break }\nbreak",
+    "while a for x in y {}\nbreak",
+    "while a { for x in y {} }\nbreak",
+    "for x in y while a {}\nbreak",
+    "for x in y for ; a; b {}\nbreak",
+    "for ; a; b for x in y {}\nbreak",
+    "fn f() { for x in y {} break }",
+    "let f = fn() { for x in y {} }\nbreak",
+    "for x in y fn f() { break }",
+    "for x in y { fn f() { for z in w {} break } break }\nbreak",
+    "for x in fn() { for z in w {} break } {}\nbreak",
+    "if a { for x in y {} } else { break }\n",
+    "try for x in y {} catch e break\n",
+    "for x in y )",
+    "for x in y { 1=2 }\nbreak",
+    "for x y\nbreak",
+    "for x in y a b\nbreak\n",
+];
+
+/// All of them, and long names with digits.
+pub fn ruled() -> impl Iterator<Item = String> {
+    let listed = RULED.iter().chain(MORE_RULED).map(|text| text.to_string());
+    let digits = "7".repeat(299);
+    let names = [
+        format!("_{digits}"),
+        format!("if{digits}\n"),
+        format!("{}_{digits}Z", "a".repeat(150)),
+        "a".repeat(299) + "1 = 2\n",
+        format!("a{digits}.5"),
+    ];
+    listed.chain(names)
+}
+
+/// Rule two in tables that are too small: how it ends, the rooms for tokens, errors and nodes, and how
+/// many of the tokens, errors and statements are kept.
+pub const RULED_SMALL: &[(&str, u32, [usize; 3], [usize; 3])] = &[
+    ("1.5", 5, [0, 0, 0], [0, 0, 0]),
+    ("1.5", 5, [2, 0, 0], [2, 0, 0]),
+    ("a1", 7, [3, 0, 1], [3, 0, 0]),
+    ("for x in y {}\nbreak", 6, [10, 0, 5], [10, 0, 1]),
 ];
 
 /// Ways to open levels, with the most that are read: what opens one, how often, what stands

@@ -8,9 +8,9 @@ use oracle::logged::{self, Event, Log};
 use oracle::state::InterpreterError;
 use oracle::stmt::Stmt;
 use oracle::token::TokenData;
-use oracle::{Reading, Stop};
+use oracle::{Reading, Rule, Stop};
 
-use crate::lexing::{self, is_text, rust_string, Error, Lexing, Token, LONGEST};
+use crate::lexing::{self, readable, Error, Lexing, Token};
 use crate::marks;
 use crate::nodes::{Node, Nodes};
 use crate::records::{self, message, node, outcome, token, way};
@@ -64,28 +64,33 @@ pub enum Known {
     Read(Box<Whole>),
 }
 
-/// Reads a source of any bytes: 4 is tested first, then 3.
-pub fn known(source: &[u8]) -> Known {
-    if source.len() > LONGEST {
-        Known::Refused(outcome::TOO_LONG)
-    } else if !is_text(source) {
-        Known::Refused(outcome::NO_TEXT)
-    } else {
-        Known::Read(Box::new(Whole::of(rust_string(source))))
+/// Reads a source of any bytes by the rule that a number names, if it names one.
+pub fn known(rule: u32, source: &[u8]) -> Known {
+    match readable(rule, source) {
+        Ok((rule, script)) => Known::Read(Box::new(Whole::of(rule, script))),
+        Err(outcome) => Known::Refused(outcome),
     }
 }
 
 impl Whole {
-    /// What the original makes of a script. It reads, compares and drops trees by recursion: where
-    /// a script nests deeply this belongs on a large stack.
-    pub fn of(script: &str) -> Whole {
-        let lexed = oracle::lex(script);
+    /// What the original makes of a script by a rule. It reads, compares and drops trees by recursion:
+    /// where a script nests deeply this belongs on a large stack.
+    pub fn of(rule: Rule, script: &str) -> Whole {
+        let lexed = oracle::lex_by(rule, script);
         let (lexing, _) = Lexing::of_reading(script, &lexed);
         let parsing = match lexed.stop {
             Stop::Lexing => None,
-            _ => Some(Parsing::of(script, lexed, &lexing.tokens)),
+            _ => Some(Parsing::of(rule, script, lexed, &lexing.tokens)),
         };
         Whole { lexing, parsing }
+    }
+
+    /// Whether this, which is rule one's, is rule two's as well: that lexes the script alike, and no `for`
+    /// stands in it, so that the line in which the parsers differ is never met.
+    pub fn is_rule_twos(&self, script: &str) -> bool {
+        const FOR: u32 = oracle::token::Token::For as u32;
+        let no_loop = !self.lexing.tokens.iter().any(|t| t[token::KIND] == FOR);
+        no_loop && Lexing::of(Rule::Two, script).0 == self.lexing
     }
 
     /// The answer on a way. Where lexing alone comes to its end within the rooms and records an error,
@@ -171,13 +176,14 @@ impl Whole {
 }
 
 impl Parsing {
-    fn of(script: &str, lexed: Reading, tokens: &[Token]) -> Parsing {
+    fn of(rule: Rule, script: &str, lexed: Reading, tokens: &[Token]) -> Parsing {
+        let read = oracle::parse_by(rule, script, lexed.clone());
         let Log {
             events,
             errors,
             stmts: marked,
             stopped,
-        } = logged::parse(marks::all(&lexed.tokens));
+        } = logged::parse(rule, marks::all(&lexed.tokens));
         let mut all: Vec<Error> = lexed.errors.iter().map(lexing::error).collect();
         all.extend(errors.iter().map(|e| placed(e, tokens)));
 
@@ -194,7 +200,7 @@ impl Parsing {
             marked,
         };
         parsing.agrees_with_its_log(script);
-        parsing.stmts = parsing.unchanged(script);
+        parsing.stmts = parsing.unchanged(script, read);
         parsing
     }
 
@@ -214,15 +220,15 @@ impl Parsing {
         assert_eq!(made, kinds, "kinds of nodes in {script:?}");
     }
 
-    /// The statements of the unchanged original, which has the same errors and stops alike. Where a
-    /// level too many opens it goes on: only what came before is compared.
-    fn unchanged(&self, script: &str) -> Vec<Stmt> {
+    /// The statements of the original without a log, which has the same errors and stops alike. Where
+    /// a level too many opens it goes on: only what came before is compared.
+    fn unchanged(&self, script: &str, read: Reading) -> Vec<Stmt> {
         let Reading {
             errors,
             mut stmts,
             stop,
             ..
-        } = oracle::read(script);
+        } = read;
         let errors: Vec<Error> = errors.iter().map(lexing::error).collect();
         let ours: Vec<Error> = self.errors.iter().map(without_place).collect();
         if self.too_deep() {

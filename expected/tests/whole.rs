@@ -1,9 +1,9 @@
 //! Node records unfold to the original's trees, and a wrong record is noticed.
 
 use expected::records::{node, Node, NODE_WORDS};
-use expected::scripts::{around, many, LISTED, MORE_WAYS, WAYS, WORKED};
+use expected::scripts::{around, many, ruled, LISTED, MORE_WAYS, WAYS, WORKED};
 use expected::whole::Whole;
-use oracle::on_large_stack;
+use oracle::{on_large_stack, Rule};
 
 fn listed() -> impl Iterator<Item = &'static str> {
     LISTED.into_iter().flatten().copied()
@@ -17,13 +17,16 @@ fn records_unfold_to_the_trees_of_the_original() {
         format!("fn f({}) a", many(256)),
         format!("f({})", many(255)),
     ];
-    for script in listed().map(str::to_string).chain(deep).chain(wide) {
+    let listed = listed().map(str::to_string).chain(ruled());
+    for script in listed.chain(deep).chain(wide) {
         on_large_stack(|| {
-            let whole = Whole::of(&script);
-            let answer = whole.within(whole.needs());
-            let (nodes, first) = (&answer.nodes, answer.first);
-            let differs = whole.tree_differs(nodes, first, answer.statements);
-            assert_eq!(differs, None, "{script:?}");
+            for rule in Rule::BOTH {
+                let whole = Whole::of(rule, &script);
+                let answer = whole.within(whole.needs());
+                let (nodes, first) = (&answer.nodes, answer.first);
+                let differs = whole.tree_differs(nodes, first, answer.statements);
+                assert_eq!(differs, None, "{script:?}");
+            }
         });
     }
 }
@@ -33,7 +36,7 @@ fn records_unfold_to_the_trees_of_the_original() {
 #[test]
 fn another_word_is_another_tree() {
     for script in WORKED {
-        let whole = Whole::of(script);
+        let whole = Whole::of(Rule::One, script);
         let answer = whole.within(whole.needs());
         let (nodes, first) = (&answer.nodes, answer.first);
         let used = reached(nodes, first);
@@ -64,7 +67,7 @@ fn reached(nodes: &[Node], first: u32) -> Vec<u32> {
 #[test]
 fn the_first_event_decides() {
     // Message 12 comes before the node of the bracket, message 4 after that of the statement.
-    let whole = Whole::of("(a b");
+    let whole = Whole::of(Rule::One, "(a b");
     let outcome = |errors, nodes| {
         let answer = whole.within([5, errors, nodes]);
         (answer.outcome, answer.errors.len(), answer.statements)

@@ -4,6 +4,9 @@
 //! f3837697bb, under the MIT licence (see `LICENSE`). `SHA256SUMS` holds their sums, and a test
 //! compares them. Everything that is ours stands in this file, outside the copies, and in `logged`.
 //!
+//! Rule two has no original. Its lexer and parser are these with three lines changed (`build.rs` has
+//! them), so that it can be asked as the original is.
+//!
 //! The package has to be built with overflow checks off, as the workspace's profiles do: with
 //! them on, `previous` panics after a statement that is followed by two newlines.
 
@@ -30,6 +33,17 @@ pub mod token;
 
 pub mod logged;
 
+/// The lexer and the parser of rule two, over the same state.
+#[allow(warnings, clippy::all)]
+mod two {
+    pub mod lexer {
+        include!(concat!(env!("OUT_DIR"), "/lexer_two.rs"));
+    }
+    pub mod parser {
+        include!(concat!(env!("OUT_DIR"), "/parser_two.rs"));
+    }
+}
+
 /// The list stands once, with the crate that hands the texts out.
 #[path = "../../kettleplume/src/messages.rs"]
 pub mod messages;
@@ -41,11 +55,37 @@ use std::thread;
 
 pub use messages::MESSAGES;
 
-use lexer::Lexer;
-use parser::Parser;
 use state::{InterpreterError, InterpreterState};
 use stmt::Stmt;
 use token::TokenData;
+
+/// The rule that a script is written for.
+#[derive(Debug, Clone, Copy, PartialEq, Eq)]
+pub enum Rule {
+    /// The original's.
+    One,
+    /// Names may have digits behind the first byte, an enhanced for gives its loop count back, and a
+    /// number with a point may end the script.
+    Two,
+}
+
+impl Rule {
+    pub const BOTH: [Rule; 2] = [Rule::One, Rule::Two];
+
+    fn lex(self, state: &mut InterpreterState) {
+        match self {
+            Rule::One => lexer::Lexer::new(state).scan(),
+            Rule::Two => two::lexer::Lexer::new(state).scan(),
+        }
+    }
+
+    fn parse(self, state: &mut InterpreterState) {
+        match self {
+            Rule::One => parser::Parser::new(state).parse(),
+            Rule::Two => two::parser::Parser::new(state).parse(),
+        }
+    }
+}
 
 /// What the state holds when the reading of a script has ended.
 #[derive(Debug, Clone)]
@@ -73,24 +113,42 @@ pub enum Stop {
 /// The two kinds of panic that belong to the original's behaviour are caught and told by `stop`.
 /// Any other panic would be a mistake in this crate's picture of the original, and panics here.
 pub fn read(source: &str) -> Reading {
-    let mut state = InterpreterState::new(source.to_string());
-    let stop = if !scans(&mut state) {
-        Stop::Lexing
-    } else if !ends(
-        || Parser::new(&mut state).parse(),
-        &["explicit panic", "called `Option::unwrap()` on a `None`"],
-    ) {
-        Stop::Parsing
-    } else {
-        Stop::None
+    read_by(Rule::One, source)
+}
+
+/// The same by a rule. By rule two lexing never stops.
+pub fn read_by(rule: Rule, source: &str) -> Reading {
+    parse_by(rule, source, lex_by(rule, source))
+}
+
+/// The second half of `read_by`: parses what `lex_by` made of the source.
+pub fn parse_by(rule: Rule, source: &str, lexed: Reading) -> Reading {
+    if lexed.stop == Stop::Lexing {
+        return lexed;
+    }
+    let mut state = InterpreterState {
+        source: source.to_string(),
+        tokens: lexed.tokens,
+        errors: lexed.errors,
+        stmts: lexed.stmts,
     };
+    let ended = ends(
+        || rule.parse(&mut state),
+        &["explicit panic", "called `Option::unwrap()` on a `None`"],
+    );
+    let stop = if ended { Stop::None } else { Stop::Parsing };
     Reading::of(state, stop)
 }
 
 /// Lexes a fresh state as `read` does, but parses nothing: no statements, the lexer's errors only.
 pub fn lex(source: &str) -> Reading {
+    lex_by(Rule::One, source)
+}
+
+/// The same by a rule.
+pub fn lex_by(rule: Rule, source: &str) -> Reading {
     let mut state = InterpreterState::new(source.to_string());
-    let stop = if scans(&mut state) {
+    let stop = if scans(rule, &mut state) {
         Stop::None
     } else {
         Stop::Lexing
@@ -109,9 +167,13 @@ impl Reading {
     }
 }
 
-/// Runs the lexer: `false` if it panics in `number`.
-fn scans(state: &mut InterpreterState) -> bool {
-    ends(|| Lexer::new(state).scan(), &["index out of bounds"])
+/// Runs the lexer: `false` if it panics in `number`, which rule two's never may.
+fn scans(rule: Rule, state: &mut InterpreterState) -> bool {
+    let expected: &[&str] = match rule {
+        Rule::One => &["index out of bounds"],
+        Rule::Two => &[],
+    };
+    ends(|| rule.lex(state), expected)
 }
 
 thread_local! {

@@ -3,13 +3,14 @@
 //! order, but outcomes 6 to 8 of document 01 depend on it. Nor does it tell which token an error is
 //! about, from which the error's place comes.
 //!
-//! `build.rs` makes it from the unchanged `parser.rs` by putting calls in. Whoever uses it compares
-//! its statements and errors with those of the unchanged one.
+//! `build.rs` makes it from the unchanged `parser.rs` by putting calls in, and the one of rule two from
+//! that rule's. Whoever uses them compares their statements and errors with those of the parser
+//! without a log.
 
-use crate::ends;
 use crate::state::InterpreterError;
 use crate::stmt::Stmt;
 use crate::token::TokenData;
+use crate::{ends, Rule};
 
 /// As many levels may be open.
 pub const LEVELS: u32 = 128;
@@ -39,11 +40,14 @@ pub struct Log {
     pub stopped: bool,
 }
 
-/// Parses tokens.
-pub fn parse(tokens: Vec<TokenData>) -> Log {
+/// Parses tokens by a rule.
+pub fn parse(rule: Rule, tokens: Vec<TokenData>) -> Log {
     let mut state = state::InterpreterState::new(tokens);
     let ended = ends(
-        || parser::Parser::new(&mut state).parse(),
+        || match rule {
+            Rule::One => parser::Parser::new(&mut state).parse(),
+            Rule::Two => parser_two::Parser::new(&mut state).parse(),
+        },
         &[
             "explicit panic",
             "called `Option::unwrap()` on a `None`",
@@ -122,4 +126,9 @@ mod state {
 #[allow(warnings, clippy::all)]
 mod parser {
     include!(concat!(env!("OUT_DIR"), "/logged_parser.rs"));
+}
+
+#[allow(warnings, clippy::all)]
+mod parser_two {
+    include!(concat!(env!("OUT_DIR"), "/logged_parser_two.rs"));
 }

@@ -7,8 +7,8 @@ use std::path::PathBuf;
 use std::{fs, iter};
 
 use expected::lexing::rust_string;
-use expected::records::{outcome, way};
-use oracle::on_large_stack;
+use expected::records::{outcome, rule, way};
+use oracle::{on_large_stack, Rule};
 
 use crate::definition::{case, End, Script};
 use crate::files::File;
@@ -30,6 +30,7 @@ pub fn outline(source: &[u8], ends: Option<(u32, [usize; 3])>) -> String {
         return head(outcome::NO_TEXT);
     }
     let script = Script {
+        rule: rule::ONE,
         way: way::GO_ON,
         text: source.iter().map(|b| char::from(*b)).collect(),
         ends: ends.map(|(outcome, kept)| End {
@@ -47,7 +48,7 @@ pub fn outline(source: &[u8], ends: Option<(u32, [usize; 3])>) -> String {
         iter::zip(counts, ROOMS).all(|(count, room)| count <= room),
         "more than outline has room for"
     );
-    let tokens = &on_large_stack(|| token_words(rust_string(source)))[..counts[0]];
+    let tokens = &on_large_stack(|| token_words(Rule::One, rust_string(source)))[..counts[0]];
     let (errors, nodes) = words[1..].split_at(counts[1]);
     let mut out = line('o', &words[0]);
     out.extend(tokens.iter().map(|token| line('t', token)));

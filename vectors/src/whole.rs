@@ -5,8 +5,10 @@ use std::fmt::Write as _;
 
 use expected::dice::Dice;
 use expected::maker::Maker;
-use expected::records::{way, WIDTHS};
-use expected::scripts::{around, LISTED, MISLEXED, MISLEXED_SMALL, SMALL, WAYS};
+use expected::records::{rule, way, WIDTHS};
+use expected::scripts::{
+    around, bytes, ruled, LISTED, MISLEXED, MISLEXED_SMALL, RULED_SMALL, SMALL, WAYS,
+};
 use expected::whole::{known, Answer, Known};
 use oracle::on_large_stack;
 
@@ -20,7 +22,10 @@ const TABLE: usize = 4_096;
 /// Each word of a table before a reading.
 const FILL: u32 = 7;
 
-/// So many random scripts, with this seed.
+/// Numbers that name no rule; the last is the largest that an input can give.
+const NO_RULE: [u32; 3] = [0, 3, 99_999];
+
+/// So many random scripts by each rule, with this seed.
 const RANDOM: usize = 60;
 const SEED: u64 = 0x7265_7265_6164_7321;
 
@@ -39,11 +44,13 @@ pub fn vectors() -> Vectors {
     // The trees are as deep as the scripts.
     on_large_stack(|| {
         let mut vectors = Vectors::default();
-        vectors.exact(&format!("# {}\n", made_by()));
+        vectors.exact(rule::ONE, format!("# {}\n", made_by()).as_bytes());
         vectors.listed();
         vectors.small();
         vectors.mislexed();
         vectors.levels();
+        vectors.ruled();
+        vectors.no_rule();
         vectors.random();
         vectors
     })
@@ -53,35 +60,58 @@ impl Vectors {
     /// Scripts that each show something, in tables of just the size.
     fn listed(&mut self) {
         for text in LISTED.into_iter().flatten() {
-            self.exact(text);
+            self.exact(rule::ONE, text.as_bytes());
         }
     }
 
-    /// Tables that are too small, some of them with a spare tail; a character is a byte.
+    /// Tables that are too small, some of them with a spare tail.
     fn small(&mut self) {
-        for (at, (text, _, rooms, _)) in SMALL.iter().enumerate() {
-            let bytes: Vec<u8> = text.chars().map(|c| c as u8).collect();
-            let tails = WIDTHS.map(|width| at % width);
-            self.add(&bytes, *rooms, tails);
+        for (rule, scripts) in [(rule::ONE, SMALL), (rule::TWO, RULED_SMALL)] {
+            for (at, (text, _, rooms, _)) in scripts.iter().enumerate() {
+                let tails = WIDTHS.map(|width| at % width);
+                self.add(rule, &bytes(text), *rooms, tails);
+            }
+        }
+    }
+
+    /// What the rules differ in, or might, by both.
+    fn ruled(&mut self) {
+        for text in ruled() {
+            for rule in [rule::ONE, rule::TWO] {
+                self.exact(rule, &bytes(&text));
+            }
+        }
+    }
+
+    /// Numbers that name no rule, with scripts that would end in several ways, the last with 3.
+    fn no_rule(&mut self) {
+        for rule in NO_RULE {
+            for source in [&b""[..], b"a1", b"1.5", b"a $", b"\xff"] {
+                self.add(rule, source, [3; 3], [1, 2, 8]);
+                self.add(rule, source, [0; 3], [0; 3]);
+            }
         }
     }
 
     /// What the ways differ in, and the largest number that an input can give for one.
     fn mislexed(&mut self) {
-        for text in MISLEXED {
-            self.exact(text);
-            self.on(99_999, text.as_bytes(), [9, 9, 9], [1, 1, 1]);
+        let rule = rule::ONE;
+        for text in MISLEXED.iter().map(|text| text.as_bytes()) {
+            self.exact(rule, text);
+            self.on(rule, 99_999, text, [9, 9, 9], [1, 1, 1]);
         }
         for (at, (text, _, rooms, _)) in MISLEXED_SMALL.iter().enumerate() {
-            self.add(text.as_bytes(), *rooms, WIDTHS.map(|width| at % width));
+            let tails = WIDTHS.map(|width| at % width);
+            self.add(rule, text.as_bytes(), *rooms, tails);
         }
     }
 
     /// The most levels that are read, and one more.
     fn levels(&mut self) {
         for &(open, most, inner, close) in &WAYS[..2] {
-            self.exact(&around(open, most, inner, close));
-            self.exact(&around(open, most + 1, inner, close));
+            for count in [most, most + 1] {
+                self.exact(rule::ONE, around(open, count, inner, close).as_bytes());
+            }
         }
     }
 
@@ -90,51 +120,52 @@ impl Vectors {
         let mut maker = Maker {
             dice: Dice::new(SEED),
         };
-        for _ in 0..RANDOM {
+        for at in 0..2 * RANDOM {
+            let rule = [rule::ONE, rule::TWO][at % 2];
             let text = maker.text();
-            let Known::Read(whole) = known(text.as_bytes()) else {
+            let Known::Read(whole) = known(rule, text.as_bytes()) else {
                 continue;
             };
             let needs = whole.needs();
             if (0..3).any(|table| WIDTHS[table] * (needs[table] + 1) > TABLE) {
                 continue;
             }
-            self.add(text.as_bytes(), needs, [0; 3]);
+            self.add(rule, text.as_bytes(), needs, [0; 3]);
             let fewer = needs.map(|room| room + 1 - maker.roll(room.min(3) + 1));
             let tails = WIDTHS.map(|width| maker.roll(width));
-            self.add(text.as_bytes(), fewer, tails);
+            self.add(rule, text.as_bytes(), fewer, tails);
         }
     }
 
     /// A script in tables that just hold what it makes.
-    fn exact(&mut self, text: &str) {
-        let Known::Read(whole) = known(text.as_bytes()) else {
+    fn exact(&mut self, rule: u32, source: &[u8]) {
+        let Known::Read(whole) = known(rule, source) else {
             panic!("a Rust string that isn't too long is read");
         };
-        self.add(text.as_bytes(), whole.needs(), [0; 3]);
+        self.add(rule, source, whole.needs(), [0; 3]);
     }
 
     /// A script in tables with rooms and spare tails, on both ways.
-    fn add(&mut self, source: &[u8], rooms: [usize; 3], tails: [usize; 3]) {
+    fn add(&mut self, rule: u32, source: &[u8], rooms: [usize; 3], tails: [usize; 3]) {
         for way in [way::GO_ON, way::STOP] {
-            self.on(way, source, rooms, tails);
+            self.on(rule, way, source, rooms, tails);
         }
     }
 
-    fn on(&mut self, way: u32, source: &[u8], rooms: [usize; 3], tails: [usize; 3]) {
+    fn on(&mut self, rule: u32, way: u32, source: &[u8], rooms: [usize; 3], tails: [usize; 3]) {
         let sizes = [0, 1, 2].map(|table| WIDTHS[table] * rooms[table] + tails[table]);
         assert!(sizes.iter().all(|&size| size <= TABLE), "too large a table");
         let refused = |outcome| Answer {
             outcome,
             ..Answer::default()
         };
-        let (answer, behind) = match known(source) {
+        let (answer, behind) = match known(rule, source) {
             Known::Read(whole) => (whole.on(way, rooms), 0),
             Known::Refused(outcome) => (refused(outcome), FILL),
         };
-        let [t, e, n] = sizes;
-        self.stdin
-            .extend(format!("{:05} {way:05} {t:05} {e:05} {n:05}\n", source.len()).bytes());
+        let ([t, e, n], length) = (sizes, source.len());
+        let head = format!("{length:05} {rule:05} {way:05} {t:05} {e:05} {n:05}\n");
+        self.stdin.extend(head.bytes());
         self.stdin.extend(source);
         self.stdin.push(b'\n');
         self.write(&answer, sizes, behind);

@@ -7,6 +7,7 @@ use expected::lexing::Lexing;
 use expected::mixed_dice::Dice;
 use expected::records::token::{shown, BEGINS, KIND, LINE};
 use expected::records::Token;
+use expected::rules::Rule;
 use vectors::lexing::judge::token_words;
 
 /// A string of several lines.
@@ -24,12 +25,14 @@ fn both_ways_agree() {
             let Ok(script) = std::str::from_utf8(&source) else {
                 continue;
             };
-            let (lexing, _) = Lexing::of(script);
-            let begins: Vec<_> = lexing.tokens.iter().map(shown).collect();
-            assert_eq!(token_words(script), begins, "{script:?}");
-            tokens += lexing.tokens.len();
-            strings += lexing.tokens.iter().filter(is_several).count();
-            errors += lexing.errors.len();
+            for rule in Rule::BOTH {
+                let (lexing, _) = Lexing::of(rule, script);
+                let begins: Vec<_> = lexing.tokens.iter().map(shown).collect();
+                assert_eq!(token_words(rule, script), begins, "{script:?}");
+                tokens += lexing.tokens.len();
+                strings += lexing.tokens.iter().filter(is_several).count();
+                errors += lexing.errors.len();
+            }
         }
     }
     let found = (tokens, strings, errors);

@@ -1,36 +1,57 @@
 //! Demand 3's premise: the stored pairs, and each clause.
 
 use expected::lexing::LONGEST;
-use vectors::blackout::pairs::{Verdict, PAIRS};
+use expected::rules::Rule;
+use vectors::blackout::pairs::{pairs, Verdict};
 use vectors::blackout::premise::{permitted, permitted_but, Clause, CLAUSES};
 use vectors::blackout::tables::Tables;
 
 #[test]
 fn each_pair_is_refused_by_its_clause_alone() {
-    for (what, first, second, verdict) in PAIRS {
-        let same = Tables::original(first) == Tables::original(second);
-        let (clause, alike) = match *verdict {
+    for (rule, what, first, second, verdict) in pairs() {
+        let what = format!("{what}, rule {rule:?}");
+        let same = Tables::original(rule, first) == Tables::original(rule, second);
+        let (clause, alike) = match verdict {
             Verdict::Permitted => (None, true),
             Verdict::Needed(clause) => (Some(clause), false),
             Verdict::Narrow(clause) => (Some(clause), true),
+            Verdict::Refused => {
+                let any = |clause| permitted_but(Some(clause), rule, first, second);
+                assert!(!CLAUSES.into_iter().any(any), "{what}");
+                assert!(!same, "{what}");
+                continue;
+            }
         };
-        assert_eq!(permitted(first, second), clause.is_none(), "{what}");
-        assert!(permitted_but(clause, first, second), "{what}");
+        assert_eq!(permitted(rule, first, second), clause.is_none(), "{what}");
+        assert!(permitted_but(clause, rule, first, second), "{what}");
         assert_eq!(same, alike, "{what}");
     }
 }
 
-/// Every clause is needed but one: beyond the limit both scripts are refused, since they are
-/// equally long.
+/// Every clause is needed but one, by each rule: beyond the limit both scripts are refused, since they
+/// are equally long.
 #[test]
 fn every_clause_but_the_limit_is_needed() {
-    for clause in CLAUSES {
-        let needed = PAIRS.iter().any(|pair| pair.3 == Verdict::Needed(clause));
-        assert_eq!(needed, clause != Clause::Limit, "{clause:?}");
-    }
     let [first, second] = [b'a', b'b'].map(|byte| vec![byte; LONGEST + 1]);
-    assert!(!permitted(&first, &second));
-    assert!(permitted_but(Some(Clause::Limit), &first, &second));
-    assert!(permitted(&first[1..], &second[1..]));
-    assert_eq!(Tables::original(&first), Tables::original(&second));
+    for rule in Rule::BOTH {
+        for clause in CLAUSES {
+            let needed =
+                pairs().any(|(by, .., verdict)| by == rule && verdict == Verdict::Needed(clause));
+            assert_eq!(needed, clause != Clause::Limit, "{clause:?}, {rule:?}");
+        }
+        assert!(!permitted(rule, &first, &second));
+        assert!(permitted_but(Some(Clause::Limit), rule, &first, &second));
+        assert!(permitted(rule, &first[1..], &second[1..]));
+        let [first, second] = [&first, &second].map(|script| Tables::original(rule, script));
+        assert_eq!(first, second);
+    }
+}
+
+/// Pairs that one rule permits and the other refuses.
+#[test]
+fn rules_differ_in_names() {
+    let differ = pairs().filter(|(_, _, first, second, _)| {
+        permitted(Rule::One, first, second) != permitted(Rule::Two, first, second)
+    });
+    assert!(differ.count() > 10);
 }

@@ -35,7 +35,7 @@ fn lexing_vectors_have_everything() {
             }
         }
     }
-    assert!(outcomes.into_iter().eq([0, 2, 3, 5, 6]));
+    assert!(outcomes.into_iter().eq([0, 2, 3, 5, 6, 13]));
     assert!(kinds.into_iter().eq(0..50));
     assert!(sorts.into_iter().eq(0..4));
     assert!(messages.into_iter().eq(1..4));

@@ -87,17 +87,20 @@ impl Request<'_> {
         let size = |n: usize| u32::try_from(n).expect("a size fits a word");
         let words = match self {
             Request::Source { bytes, behind } => {
-                [1, size(bytes.len()), u32::from(*behind), 0, 0, 0]
+                [1, size(bytes.len()), u32::from(*behind), 0, 0, 0, 0]
             }
-            Request::Lex(c) => [2, size(c.token_words), size(c.error_words), c.fill, 0, 0],
+            Request::Lex(c) => {
+                let (tokens, errors) = (size(c.token_words), size(c.error_words));
+                [2, tokens, errors, c.fill, c.rule, 0, 0]
+            }
             Request::Decode(c) => {
                 let (low, high) = (c.start as u32, (c.start >> 32) as u32);
-                [3, size(c.room), u32::from(c.fill), low, high, 0]
+                [3, size(c.room), u32::from(c.fill), low, high, 0, 0]
             }
             Request::Read(c) => {
                 let (tokens, errors) = (size(c.token_words), size(c.error_words));
-                let what = if c.pair { 5 } else { 4 };
-                [what, tokens, errors, size(c.node_words), c.fill, c.way]
+                let (what, nodes) = (if c.pair { 5 } else { 4 }, size(c.node_words));
+                [what, tokens, errors, nodes, c.fill, c.rule, c.way]
             }
         };
         words
@@ -195,12 +198,14 @@ fn build() -> Vec<OsString> {
 }
 
 /// What `host.c` has to know: the numbers have their definition in Rust.
-fn numbers() -> [String; 4] {
+fn numbers() -> [String; 6] {
     [
         format!("-DTOKEN_WORDS={TOKEN_WORDS}"),
         format!("-DERROR_WORDS={ERROR_WORDS}"),
         format!("-DNODE_WORDS={NODE_WORDS}"),
         format!("-DMORE={}", outcome::MORE),
+        format!("-DWRONG_RULE={}", outcome::WRONG_RULE),
+        format!("-DMISMATCH={}", outcome::MISMATCH),
     ]
 }
 

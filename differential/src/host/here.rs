@@ -10,6 +10,15 @@ const GUARD: usize = 8;
 const GUARD_WORD: u32 = 0x5aa5_c33c;
 const GUARD_BYTE: u8 = 0x5a;
 
+/// What a read answers where nothing was begun.
+const MISMATCH: border::Answer = border::Answer {
+    outcome: outcome::MISMATCH,
+    tokens: 0,
+    errors: 0,
+    nodes: 0,
+    first: 0,
+};
+
 /// The source that the next calls are about, with what stands behind it.
 #[derive(Default)]
 pub struct Here {
@@ -80,7 +89,7 @@ fn words(size: usize, fill: u32) -> Guarded<u32> {
 fn lex(source: &[u8], call: &LexCall) -> LexAnswer {
     let mut tokens = words(call.token_words, call.fill);
     let mut errors = words(call.error_words, call.fill);
-    let answer = border::scan(source, tokens.lent(), errors.lent());
+    let answer = border::scan(call.rule, source, tokens.lent(), errors.lent());
     LexAnswer {
         outcome: answer.outcome,
         tokens: answer.tokens,
@@ -106,10 +115,10 @@ fn read(source: &[u8], call: &ReadCall) -> ReadAnswer {
     let mut tables =
         [call.token_words, call.error_words, call.node_words].map(|size| words(size, call.fill));
     let (answer, steady, so_far) = if call.pair {
-        one_at_a_time(call.way, source, &mut tables)
+        one_at_a_time(call, source, &mut tables)
     } else {
         let [tokens, errors, nodes] = tables.each_mut().map(Guarded::lent);
-        let answer = border::read(call.way, source, tokens, errors, nodes);
+        let answer = border::read(call.rule, call.way, source, tokens, errors, nodes);
         (answer, true, vec![])
     };
     let intact = tables.iter().all(Guarded::intact);
@@ -129,18 +138,20 @@ fn read(source: &[u8], call: &ReadCall) -> ReadAnswer {
     }
 }
 
-/// Begins and reads up to the final answer, then once more: the answer, whether that read gave it
-/// again and changed nothing, and what was answered in between. A source of n bytes has its final
-/// answer after n + 2 reads, which is proved; a library that goes on is stopped.
+/// Begins and reads up to the final answer, then once more: the answer, whether all is steady, as
+/// `ReadAnswer` has it, and what was answered in between. A source of n bytes has its final answer
+/// after n + 2 reads, which is proved; a library that goes on is stopped.
 fn one_at_a_time(
-    way: u32,
+    call: &ReadCall,
     source: &[u8],
     tables: &mut [Guarded<u32>; 3],
 ) -> (border::Answer, bool, Vec<[u32; 4]>) {
-    let mut parser = Parser {
-        way,
+    let set = Parser {
+        rule: call.rule,
+        way: call.way,
         ..Parser::default()
     };
+    let mut parser = set;
     let [tokens, errors, nodes] = tables.each_mut().map(Guarded::lent);
     let mut answer = parser.begin(source, tokens, errors, nodes);
     let mut so_far = vec![];
@@ -151,6 +162,9 @@ fn one_at_a_time(
     let kept = (parser, tokens.to_vec(), errors.to_vec(), nodes.to_vec());
     let again = parser.next(source, tokens, errors, nodes);
     let now = (parser, tokens.to_vec(), errors.to_vec(), nodes.to_vec());
-    let steady = again == answer && now == kept && parser.way == way;
-    (answer, steady, so_far)
+    let last = match answer.outcome {
+        outcome::WRONG_RULE => again == MISMATCH && parser == set,
+        _ => again == answer && (parser.rule, parser.way) == (set.rule, set.way),
+    };
+    (answer, last && now == kept, so_far)
 }

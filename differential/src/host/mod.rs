@@ -21,9 +21,10 @@ pub enum Request<'a> {
     Read(ReadCall),
 }
 
-/// A call of `kettleplume_scan`: the tables' sizes in words, and the word they are filled with.
+/// A call of `kettleplume_scan`: the rule, the tables' sizes in words, and the word they are filled with.
 #[derive(Debug, Clone, Copy)]
 pub struct LexCall {
+    pub rule: u32,
     pub token_words: usize,
     pub error_words: usize,
     pub fill: u32,
@@ -37,9 +38,10 @@ pub struct DecodeCall {
     pub fill: u8,
 }
 
-/// A reading: the way, the tables' sizes in words, and the word they are filled with.
+/// A reading: the rule, the way, the tables' sizes in words, and the word they are filled with.
 #[derive(Debug, Clone, Copy)]
 pub struct ReadCall {
+    pub rule: u32,
     pub way: u32,
     /// Whether it is read one statement at a time, and not by `kettleplume_read`.
     pub pair: bool,
@@ -82,7 +84,8 @@ pub struct ReadAnswer {
     /// Whether the guards round the tables are as they were.
     pub intact: bool,
     /// One statement at a time: whether a read after the final answer gave it again and changed
-    /// nothing, and the parser has the way that was set.
+    /// nothing, and the parser has the rule and the way that were set. 13 is no final answer: then
+    /// whether the parser is as it was set, and the read answered 18 and changed nothing.
     pub steady: bool,
     /// One statement at a time: tokens, errors, nodes and first statement of each answer 19.
     pub so_far: Vec<[u32; 4]>,

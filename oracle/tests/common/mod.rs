@@ -1,9 +1,12 @@
 //! Readings as short texts, so that tests can be tables.
 
+// No file of tests uses all of it.
+#![allow(dead_code)]
+
 use oracle::expr::{AccessExpr, Expr, FnExpr};
 use oracle::stmt::{FnStmt, Stmt};
 use oracle::token::{Literal, TokenData};
-use oracle::{message_number, read, Reading, Stop};
+use oracle::{message_number, read_by, Reading, Rule, Stop};
 
 /// A script, its errors and stop as `trouble` gives them, its statements as `statements` does.
 pub type Case = (&'static str, &'static str, &'static str);
@@ -11,9 +14,15 @@ pub type Case = (&'static str, &'static str, &'static str);
 /// Reads each script and compares. All that differ are told, not only the first.
 #[track_caller]
 pub fn compare(cases: &[Case]) {
+    compare_by(Rule::One, cases);
+}
+
+/// The same by a rule.
+#[track_caller]
+pub fn compare_by(rule: Rule, cases: &[Case]) {
     let mut wrong = String::new();
     for (script, errors, tree) in cases {
-        let reading = read(script);
+        let reading = read_by(rule, script);
         let (is_errors, is_tree) = (trouble(&reading), statements(&reading));
         if (is_errors.as_str(), is_tree.as_str()) != (*errors, *tree) {
             wrong += &format!("\n  ({script:?}, {is_errors:?}, {is_tree:?}),");

@@ -1,8 +1,10 @@
-//! Random scripts for the premise, permitted changes of them, and changes that break one clause.
+//! Random scripts for the premise, permitted changes of them by a rule, and changes that break one
+//! clause.
 
 use super::premise::{is_keyword, pieces, Clause, Kind, Piece};
 use expected::lex_scripts::{damaged, name, script, string, KEYWORDS};
 use expected::mixed_dice::Dice;
+use expected::rules::Rule;
 
 /// Letters of one to four bytes for strings and comments. No digit is among them: a text of a #
 /// and digits is how the tables of the original's trees mark a token.
@@ -76,20 +78,29 @@ fn letters(dice: &mut Dice, size: usize, in_comment: bool) -> String {
 }
 
 /// A name of so many bytes that is no keyword, often near one.
-fn other_name(dice: &mut Dice, size: usize) -> Vec<u8> {
-    const BYTES: &[u8] = b"aefinorst_AZ";
+fn other_name(dice: &mut Dice, rule: Rule, size: usize) -> Vec<u8> {
     loop {
-        let mut name: Vec<u8> = (0..size).map(|_| BYTES[dice.below(BYTES.len())]).collect();
+        let mut name: Vec<u8> = (0..size).map(|at| name_byte(dice, rule, at)).collect();
         if let Some(keyword) = keyword_of(dice, size) {
             if dice.one_in(2) {
                 name = keyword.as_bytes().to_vec();
-                name[dice.below(size)] = BYTES[dice.below(BYTES.len())];
+                let at = dice.below(size);
+                name[at] = name_byte(dice, rule, at);
             }
         }
         if !is_keyword(&name) {
             return name;
         }
     }
+}
+
+/// A byte that may stand at this place of a name.
+fn name_byte(dice: &mut Dice, rule: Rule, at: usize) -> u8 {
+    let bytes: &[u8] = match rule {
+        Rule::Two if at > 0 => b"aefinorst_AZ0189",
+        _ => b"aefinorst_AZ",
+    };
+    bytes[dice.below(bytes.len())]
 }
 
 /// A keyword of so many bytes, if there is one.
@@ -99,9 +110,9 @@ fn keyword_of(dice: &mut Dice, size: usize) -> Option<&'static str> {
 }
 
 /// A script that the premise permits beside the first: most pieces that may change do.
-pub fn changed(dice: &mut Dice, first: &[u8]) -> Vec<u8> {
+pub fn changed(dice: &mut Dice, rule: Rule, first: &[u8]) -> Vec<u8> {
     let mut second = first.to_vec();
-    for piece in pieces(first) {
+    for piece in pieces(rule, first) {
         if dice.one_in(5) {
             continue;
         }
@@ -111,7 +122,7 @@ pub fn changed(dice: &mut Dice, first: &[u8]) -> Vec<u8> {
                 let text = letters(dice, bytes.len() - 1, true);
                 bytes[1..].copy_from_slice(text.as_bytes());
             }
-            Kind::Name => bytes.copy_from_slice(&other_name(dice, bytes.len())),
+            Kind::Name => bytes.copy_from_slice(&other_name(dice, rule, bytes.len())),
             Kind::String => {
                 for [start, end] in plain_runs(bytes) {
                     let text = letters(dice, end - start, false);
@@ -160,7 +171,13 @@ fn plain_runs(string: &[u8]) -> Vec<[usize; 2]> {
 
 /// The second with one more change, which breaks this clause; none if the first has nothing that
 /// it is about.
-pub fn broken(dice: &mut Dice, clause: Clause, first: &[u8], second: &[u8]) -> Option<Vec<u8>> {
+pub fn broken(
+    dice: &mut Dice,
+    rule: Rule,
+    clause: Clause,
+    first: &[u8],
+    second: &[u8],
+) -> Option<Vec<u8>> {
     let mut script = second.to_vec();
     let kind = match clause {
         Clause::EqualLength => {
@@ -175,7 +192,7 @@ pub fn broken(dice: &mut Dice, clause: Clause, first: &[u8], second: &[u8]) -> O
         Clause::WasKeyword => Kind::Keyword,
         _ => Kind::String,
     };
-    let found: Vec<Piece> = pieces(first)
+    let found: Vec<Piece> = pieces(rule, first)
         .into_iter()
         .filter(|p| p.kind == kind)
         .collect();
@@ -190,7 +207,7 @@ pub fn broken(dice: &mut Dice, clause: Clause, first: &[u8], second: &[u8]) -> O
         return Some(script);
     }
     if clause == Clause::WasKeyword {
-        script[start..end].copy_from_slice(&other_name(dice, size));
+        script[start..end].copy_from_slice(&other_name(dice, rule, size));
         return Some(script);
     }
     // One byte becomes another; both are ASCII, so that the letters about it stay whole.
@@ -224,6 +241,7 @@ pub fn broken(dice: &mut Dice, clause: Clause, first: &[u8], second: &[u8]) -> O
         Clause::CommentNewline | Clause::NoNewline => b"\n",
         Clause::NoQuote => b"\"",
         Clause::NoBackslash => b"\\",
+        Clause::NameToName if rule == Rule::Two && at > start => b" .(\n\"",
         Clause::NameToName => b"0 .(\n\"",
         Clause::Quotes | Clause::Backslashes | Clause::Newlines => b"aZ #",
         _ => b"aZ1 #\n(=\"nrt\\q",

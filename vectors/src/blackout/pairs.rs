@@ -10,6 +10,7 @@ use crate::files::File;
 use crate::folders::{ALIKE, BLACKOUT};
 use expected::lexing::is_text;
 use expected::mixed_dice::Dice;
+use expected::rules::{number, Rule};
 
 /// What the premise says of a pair.
 #[derive(Debug, Clone, Copy, PartialEq, Eq)]
@@ -20,13 +21,32 @@ pub enum Verdict {
     Needed(Clause),
     /// Refused by this clause alone, though both are read alike: the demand is that narrow.
     Narrow(Clause),
+    /// Refused by more than one clause, and read differently.
+    Refused,
 }
-use Verdict::{Narrow, Needed, Permitted};
+use Verdict::{Narrow, Needed, Permitted, Refused};
 
-/// What it shows, the two scripts, and the verdict.
-pub type Pair = (&'static str, &'static [u8], &'static [u8], Verdict);
+/// A rule, what the pair shows, the two scripts, and the verdict.
+pub type Pair = (Rule, &'static str, &'static [u8], &'static [u8], Verdict);
 
-pub const PAIRS: &[Pair] = &[
+/// Each pair by both rules.
+pub fn pairs() -> impl Iterator<Item = Pair> {
+    let same = PAIRS
+        .iter()
+        .map(|&(what, first, second, verdict)| (what, first, second, [verdict; 2]));
+    same.chain(RULED.iter().copied())
+        .flat_map(|(what, first, second, verdicts)| {
+            let [one, two] = verdicts;
+            [(Rule::One, one), (Rule::Two, two)]
+                .map(|(rule, verdict)| (rule, what, first, second, verdict))
+        })
+}
+
+/// What a pair shows, the two scripts, and what is said of them.
+type Listed<V> = (&'static str, &'static [u8], &'static [u8], V);
+
+/// Pairs of which both rules say the same.
+const PAIRS: &[Listed<Verdict>] = &[
     ("nothing", b"", b"", Permitted),
     (
         "a comment with other bytes",
@@ -201,9 +221,16 @@ pub const PAIRS: &[Pair] = &[
         Needed(Clause::NoNewline),
     ),
     (
-        "a name gains a digit",
+        "a name gains a digit as its first byte",
         b"ab",
-        b"a1",
+        b"1b",
+        Needed(Clause::NameToName),
+    ),
+    ("a name right behind a number", b"1a", b"1b", Permitted),
+    (
+        "a name behind a number joins it",
+        b"1a",
+        b"12",
         Needed(Clause::NameToName),
     ),
     ("a shorter name", b"ab", b"a ", Needed(Clause::NameToName)),
@@ -234,7 +261,83 @@ pub const PAIRS: &[Pair] = &[
     ),
 ];
 
-/// The number and the seed of the stored random pairs.
+/// Pairs with digits in names and numbers at the end, with the verdict of each rule.
+const RULED: &[Listed<[Verdict; 2]>] = &[
+    (
+        "a name gains a digit",
+        b"ab",
+        b"a1",
+        [Needed(Clause::NameToName), Permitted],
+    ),
+    (
+        "a digit behind a letter becomes another",
+        b"a1",
+        b"b2",
+        [Needed(Clause::Only), Permitted],
+    ),
+    (
+        "a digit behind a letter becomes a letter",
+        b"_1",
+        b"a_",
+        [Needed(Clause::Only), Permitted],
+    ),
+    (
+        "a digit behind a letter becomes a blank",
+        b"a1",
+        b"a ",
+        [Needed(Clause::Only), Needed(Clause::NameToName)],
+    ),
+    (
+        "a letter with a digit becomes a keyword",
+        b"a1",
+        b"if",
+        [Needed(Clause::Only), Needed(Clause::BecomesKeyword)],
+    ),
+    (
+        "a keyword gains a digit",
+        b"if",
+        b"i1",
+        [Refused, Needed(Clause::WasKeyword)],
+    ),
+    (
+        "a keyword with a digit becomes a name",
+        b"if1",
+        b"ab2",
+        [Refused, Permitted],
+    ),
+    (
+        "a keyword with a digit becomes a keyword",
+        b"if1",
+        b"nil",
+        [Refused, Needed(Clause::BecomesKeyword)],
+    ),
+    (
+        "letters and digits about a mark",
+        b"a1 = b2",
+        b"x9 = y_",
+        [Needed(Clause::Only), Permitted],
+    ),
+    (
+        "a letter and a digit before a point",
+        b"a1.5",
+        b"b2.5",
+        [Narrow(Clause::Only), Permitted],
+    ),
+    (
+        "a number with a point at the end",
+        b"1.5",
+        b"2.5",
+        [Narrow(Clause::Only), Needed(Clause::Only)],
+    ),
+    (
+        "an enhanced for and what stands behind it",
+        b"for a1 in b2 {}\nbreak",
+        b"for x9 in y_ {}\nbreak",
+        [Needed(Clause::Only), Permitted],
+    ),
+];
+
+/// The number and the seed of the stored random pairs; each second one is by rule two.
 const RANDOM: (usize, u64) = (300, 20_261_116);
 
 /// The pairs with what the premise and the original say of them, and random ones with the premise
@@ -250,10 +353,11 @@ pub fn files() -> Vec<File> {
 
 /// The text of the theorem about the pairs above and the premise.
 fn stored() -> String {
-    let rows = PAIRS.iter().map(|(what, first, second, _)| {
-        let same = Tables::original(first) == Tables::original(second);
-        let (p, first, second) = (permitted(first, second), quoted(first), quoted(second));
-        format!("    pair {first} {second} {p} {same} ∷  -- {what}\n")
+    let rows = pairs().map(|(rule, what, first, second, _)| {
+        let same = Tables::original(rule, first) == Tables::original(rule, second);
+        let p = permitted(rule, first, second);
+        let (rule, first, second) = (number(rule), quoted(first), quoted(second));
+        format!("    pair {rule} {first} {second} {p} {same} ∷  -- {what}\n")
     });
     premise(
         "Pairs of scripts: whether the premise holds of them, as the one in Rust says; and whether they are read alike, of which `alike` has the theorem.",
@@ -286,9 +390,10 @@ fn read() -> String {
 pub fn random(count: usize, seed: u64) -> String {
     let rows = random_pairs(count, seed)
         .into_iter()
-        .map(|[first, second]| {
-            let (p, first, second) = (permitted(&first, &second), quoted(&first), quoted(&second));
-            format!("    both {first} {second} {p} ∷\n")
+        .map(|(rule, [first, second])| {
+            let p = permitted(rule, &first, &second);
+            let (rule, first, second) = (number(rule), quoted(&first), quoted(&second));
+            format!("    both {rule} {first} {second} {p} ∷\n")
         });
     premise(
         "Random pairs of scripts: the premise holds of them where the one in Rust does.",
@@ -320,12 +425,13 @@ fn premise(title: &str, forms: &str, table: &str, pairs: &str) -> String {
     )
 }
 
-/// Short pairs of every sort.
-fn random_pairs(count: usize, seed: u64) -> Vec<[Vec<u8>; 2]> {
+/// Short pairs of every sort, by one rule and the other.
+fn random_pairs(count: usize, seed: u64) -> Vec<(Rule, [Vec<u8>; 2])> {
     let mut dice = Dice::new(seed);
     let mut texts = texts(dice.word() | 1);
     let mut pairs = vec![];
     while pairs.len() < count {
+        let rule = Rule::BOTH[pairs.len() % 2];
         let first = any_first(&mut dice, &mut texts);
         if first.is_empty() || first.len() > 40 {
             continue;
@@ -333,16 +439,16 @@ fn random_pairs(count: usize, seed: u64) -> Vec<[Vec<u8>; 2]> {
         let second = match dice.below(4) {
             0 => exchanged(&mut dice, &first),
             1 | 2 if is_text(&first) => {
-                let second = changed(&mut dice, &first);
+                let second = changed(&mut dice, rule, &first);
                 let clause = CLAUSES[dice.below(CLAUSES.len())];
-                match broken(&mut dice, clause, &first, &second) {
+                match broken(&mut dice, rule, clause, &first, &second) {
                     Some(script) if dice.one_in(2) => script,
                     _ => second,
                 }
             }
             _ => continue,
         };
-        pairs.push([first, second]);
+        pairs.push((rule, [first, second]));
     }
     pairs
 }

@@ -1,4 +1,4 @@
-//! Demand 3's premise: what of a script may be blacked out, and to what.
+//! Demand 3's premise: what of a script may be blacked out, and to what, by a rule.
 //!
 //! Written from the demand's words, and in another way than the Rattle definition: the first script
 //! is cut into pieces, and each is held against the same bytes of the second. Any one clause can be
@@ -6,6 +6,7 @@
 
 use expected::lex_scripts::KEYWORDS;
 use expected::lexing::{is_text, LONGEST};
+use expected::rules::Rule;
 
 /// The demand's clauses, in its order.
 #[derive(Debug, Clone, Copy, PartialEq, Eq, PartialOrd, Ord)]
@@ -40,7 +41,7 @@ pub enum Clause {
     NoBackslash,
     /// "no other .. newline"
     NoNewline,
-    /// "A name becomes a name of the same length"
+    /// "A name becomes a name of the same length", by the rule
     NameToName,
     /// "neither is a keyword": the first's
     WasKeyword,
@@ -69,14 +70,14 @@ pub const CLAUSES: [Clause; 18] = [
     Clause::BecomesKeyword,
 ];
 
-/// Whether the second is a script that the demand speaks of beside the first.
-pub fn permitted(first: &[u8], second: &[u8]) -> bool {
-    permitted_but(None, first, second)
+/// Whether the second is a script that the demand speaks of beside the first, both read by a rule.
+pub fn permitted(rule: Rule, first: &[u8], second: &[u8]) -> bool {
+    permitted_but(None, rule, first, second)
 }
 
 /// The same with one clause dropped.
-pub fn permitted_but(dropped: Option<Clause>, first: &[u8], second: &[u8]) -> bool {
-    let test = Test { dropped };
+pub fn permitted_but(dropped: Option<Clause>, rule: Rule, first: &[u8], second: &[u8]) -> bool {
+    let test = Test { dropped, rule };
     test.holds(Clause::EqualLength, first.len() == second.len())
         && test.holds(Clause::Limit, first.len() <= LONGEST)
         && test.holds(Clause::FirstText, is_text(first))
@@ -107,22 +108,25 @@ pub struct Piece {
     pub end: usize,
 }
 
-/// A script's pieces in order; together they have all of its bytes.
-pub fn pieces(script: &[u8]) -> Vec<Piece> {
-    cut(script, true)
+/// A script's pieces by a rule, in order; together they have all of its bytes.
+pub fn pieces(rule: Rule, script: &[u8]) -> Vec<Piece> {
+    cut(rule, script, true)
 }
 
 /// The same; where strings needn't be proper, one goes on behind a wrong escape, and to the
 /// script's end if no quote closes it.
-fn cut(script: &[u8], proper: bool) -> Vec<Piece> {
+fn cut(rule: Rule, script: &[u8], proper: bool) -> Vec<Piece> {
     let (mut pieces, mut start) = (vec![], 0);
     while start < script.len() {
-        let run = |test: fn(u8) -> bool| script[start..].iter().take_while(|b| test(**b)).count();
+        let run = |test: &dyn Fn(u8) -> bool| {
+            let rest = script[start..].iter();
+            rest.take_while(|b| test(**b)).count()
+        };
         let (kind, size) = match script[start] {
-            b'#' => (Kind::Comment, run(|b| b != b'\n')),
+            b'#' => (Kind::Comment, run(&|b| b != b'\n')),
             b'"' => string(&script[start..], proper),
             b if is_letter(b) => {
-                let size = run(is_letter);
+                let size = run(&|b| is_named(rule, b));
                 let keyword = is_keyword(&script[start..start + size]);
                 (if keyword { Kind::Keyword } else { Kind::Name }, size)
             }
@@ -155,17 +159,24 @@ fn string(bytes: &[u8], proper: bool) -> (Kind, usize) {
     (kind, bytes.len())
 }
 
-pub fn is_letter(byte: u8) -> bool {
+/// What a name begins with.
+fn is_letter(byte: u8) -> bool {
     byte.is_ascii_alphabetic() || byte == b'_'
+}
+
+/// What a name has behind its first byte.
+fn is_named(rule: Rule, byte: u8) -> bool {
+    is_letter(byte) || (rule == Rule::Two && byte.is_ascii_digit())
 }
 
 pub fn is_keyword(name: &[u8]) -> bool {
     KEYWORDS.iter().any(|keyword| keyword.as_bytes() == name)
 }
 
-/// The premise with at most one clause dropped.
+/// The premise by a rule, with at most one clause dropped.
 struct Test {
     dropped: Option<Clause>,
+    rule: Rule,
 }
 
 impl Test {
@@ -179,7 +190,7 @@ impl Test {
 
     /// Piece by piece, as far as both scripts go.
     fn differs_only(&self, first: &[u8], second: &[u8]) -> bool {
-        let pieces = cut(first, !self.drops(Clause::ClosedProperly));
+        let pieces = cut(self.rule, first, !self.drops(Clause::ClosedProperly));
         pieces.iter().all(|piece| {
             let end = piece.end.min(second.len());
             let Some(new) = second.get(piece.start..end) else {
@@ -205,7 +216,9 @@ impl Test {
     }
 
     fn is_name(&self, new: &[u8]) -> bool {
-        self.holds(Clause::NameToName, new.iter().all(|b| is_letter(*b)))
+        let begins = new.first().is_none_or(|b| is_letter(*b));
+        let named = new.iter().all(|b| is_named(self.rule, *b));
+        self.holds(Clause::NameToName, begins && named)
             && self.holds(Clause::BecomesKeyword, !is_keyword(new))
     }
 

@@ -2,6 +2,7 @@
 
 use expected::lexing::{expect, rust_string};
 use expected::records::outcome;
+use expected::rules::{number, Rule};
 
 use crate::definition::answer;
 
@@ -16,16 +17,16 @@ pub struct Tables {
 }
 
 impl Tables {
-    /// The original's whole reading, with room enough.
-    pub fn original(source: &[u8]) -> Tables {
-        let (lexing, _) = expect(source);
+    /// The original's whole reading by a rule, with room enough.
+    pub fn original(rule: Rule, source: &[u8]) -> Tables {
+        let (lexing, _) = expect(number(rule), source);
         let tokens = lexing.tokens.concat();
         if matches!(lexing.outcome, outcome::NO_TEXT | outcome::TOO_LONG) {
             // What is refused keeps nothing.
             let answer = vec![lexing.outcome, 0, 0, 0, 0];
             return Tables::kept(answer, tokens, vec![], vec![]);
         }
-        let mut rows = answer(rust_string(source));
+        let mut rows = answer(rule, rust_string(source));
         let head = rows.remove(0);
         let nodes = rows.split_off(head[2] as usize);
         Tables::kept(head, tokens, rows.concat(), nodes.concat())

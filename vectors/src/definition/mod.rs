@@ -12,6 +12,8 @@ use std::fmt::Write as _;
 use expected::dice::Dice;
 use expected::maker::Maker;
 use expected::records::{outcome, way, NODE_WORDS};
+use expected::rules::{number, Rule};
+use expected::scripts::bytes;
 use expected::whole::{known, Known, Whole};
 use oracle::on_large_stack;
 
@@ -23,11 +25,13 @@ const FILL: u32 = 7;
 
 /// A script; a character is a byte.
 pub struct Script {
+    /// The number of the rule by which it is read.
+    pub rule: u32,
     /// The way on which it is read.
     pub way: u32,
     pub text: String,
-    /// Where the tables are too small, a level too many opens or the script is no text, and the
-    /// original therefore doesn't say what is kept.
+    /// Where the tables are too small, a level too many opens, the script is no text or the rule none,
+    /// and the original therefore doesn't say what is kept.
     pub ends: Option<End>,
 }
 
@@ -41,8 +45,9 @@ pub struct End {
     pub kept: [usize; 3],
 }
 
-/// A case: a way, a script, the tables' rooms, and the words that are kept.
+/// A case: a rule, a way, a script, the tables' rooms, and the words that are kept.
 pub struct Case {
+    pub rule: u32,
     pub way: u32,
     pub text: String,
     pub rooms: [usize; 3],
@@ -52,23 +57,28 @@ pub struct Case {
 /// What the original makes of a script. Where document 01 decides instead, how the reading ends
 /// stands beside the script, and the log of the original's parser has to say the same.
 pub fn case(script: &Script) -> Case {
-    let Script { way, text, ends } = script;
-    let way = *way;
-    let byte = |c| u8::try_from(u32::from(c)).expect("a byte");
-    let bytes: Vec<u8> = text.chars().map(byte).collect();
-    let text = text.clone();
-    let Known::Read(whole) = known(&bytes) else {
-        let end = ends.expect("no text, so the original can't read it");
-        // The node table, with its longest spare tail, is unchanged, also where it is not 0.
-        let nodes = vec![FILL; NODE_WORDS * (end.rooms[2] + 1) - 1];
-        let words = vec![vec![end.outcome, 0, 0, 0, 0], nodes];
-        let rooms = end.rooms;
-        return Case {
-            way,
-            text,
-            rooms,
-            words,
-        };
+    let &Script {
+        rule,
+        way,
+        ref text,
+        ends,
+    } = script;
+    let case = |rooms, words| Case {
+        rule,
+        way,
+        text: text.clone(),
+        rooms,
+        words,
+    };
+    let whole = match known(rule, &bytes(text)) {
+        Known::Read(whole) => whole,
+        Known::Refused(outcome) => {
+            let end = ends.expect("no text or no rule, so the original can't read it");
+            assert_eq!((outcome, [0; 3]), (end.outcome, end.kept), "{text:?}");
+            // The node table, with its longest spare tail, is unchanged, also where it is not 0.
+            let nodes = vec![FILL; NODE_WORDS * (end.rooms[2] + 1) - 1];
+            return case(end.rooms, vec![vec![outcome, 0, 0, 0, 0], nodes]);
+        }
     };
     let rooms = ends.map_or_else(|| rooms(&whole), |end| end.rooms);
     let answer = whole.on(way, rooms);
@@ -83,19 +93,19 @@ pub fn case(script: &Script) -> Case {
     let mut words = vec![vec![answer.outcome, tokens, errors, count, answer.first]];
     words.extend(answer.errors.iter().map(|e| e.to_vec()));
     words.extend(answer.nodes.iter().map(|n| n.to_vec()));
-    Case {
-        way,
-        text,
-        rooms,
-        words,
-    }
+    case(rooms, words)
 }
 
-/// What the original makes of a script with room enough: its answer, then each error and node.
-pub fn answer(source: &str) -> Vec<Vec<u32>> {
-    let text = source.bytes().map(char::from).collect();
-    let (way, ends) = (way::GO_ON, None);
-    case(&Script { way, text, ends }).words
+/// What the original makes of a script by a rule with room enough: its answer, then each error and
+/// node.
+pub fn answer(rule: Rule, source: &str) -> Vec<Vec<u32>> {
+    let script = Script {
+        rule: number(rule),
+        way: way::GO_ON,
+        text: source.bytes().map(char::from).collect(),
+        ends: None,
+    };
+    case(&script).words
 }
 
 /// Tables that hold what is read.
@@ -157,26 +167,62 @@ impl File {
         on_large_stack(|| self.scripts.iter().map(case).collect())
     }
 
-    /// The file's text.
+    /// The file's text: a theorem for each of its parts.
     pub fn text(&self) -> String {
         let mut out = format!("-- {}\n{}", self.comment, HEAD);
-        out += "\nabbrev cases : List Case\ncases =\n";
-        for case in self.cases() {
-            let [tokens, errors, nodes] = case.rooms;
-            let rows: Vec<String> = case.words.iter().map(|row| words(row)).collect();
-            let (way, text, rows) = (case.way, quoted(&case.text), rows.join("\n    "));
-            writeln!(out, "    case {way} {text} {tokens} {errors} {nodes}").expect("a line");
-            writeln!(out, "    ({rows} []) ∷").expect("a line");
+        for (at, part) in parts(self.cases()).iter().enumerate() {
+            out += &theorem(at + 1, part);
         }
-        out + "    []\n\nagree : map answer cases ≡ map expected cases\n"
-            + UNFOLDING
-            + "agree = refl\n"
+        out
     }
 
     /// The file where the crate has it.
     pub fn file(&self) -> files::File {
         files::File::theorems(SCRIPTS, self.name, &self.text())
     }
+}
+
+/// The checker allows a declaration so many steps: a theorem has a few long scripts, or more short
+/// ones, of so many bytes together.
+const PART: usize = 768;
+
+/// The cases in parts, each with one case at the least.
+fn parts(cases: Vec<Case>) -> Vec<Vec<Case>> {
+    let mut parts: Vec<Vec<Case>> = vec![];
+    let mut bytes = 0;
+    for case in cases {
+        bytes += case.text.len();
+        if parts.is_empty() || bytes > PART {
+            bytes = case.text.len();
+            parts.push(vec![]);
+        }
+        parts.last_mut().expect("a part").push(case);
+    }
+    parts
+}
+
+/// A theorem: the definition answers these cases as the original does.
+fn theorem(number: usize, cases: &[Case]) -> String {
+    let mut out = format!("\nabbrev cases-{number} : List Case\ncases-{number} =\n");
+    for case in cases {
+        let [tokens, errors, nodes] = case.rooms;
+        let rows: Vec<String> = case.words.iter().map(|row| words(row)).collect();
+        let (rule, way, text) = (case.rule, case.way, quoted(&case.text));
+        let rows = rows.join("\n    ");
+        writeln!(
+            out,
+            "    case {rule} {way} {text} {tokens} {errors} {nodes}"
+        )
+        .expect("a line");
+        writeln!(out, "    ({rows} []) ∷").expect("a line");
+    }
+    out += "    []\n\n";
+    writeln!(
+        out,
+        "agree-{number} : map answer cases-{number} ≡ map expected cases-{number}"
+    )
+    .expect("a line");
+    out + UNFOLDING + &format!("agree-{number} = refl\n")
 }
 
 /// Words, each with the sign of lists behind it.

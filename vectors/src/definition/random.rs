@@ -2,9 +2,9 @@
 
 use super::{End, Script};
 use expected::maker::Maker;
-use expected::records::{outcome, way};
+use expected::records::{outcome, rule, way};
 use expected::whole::Whole;
-use oracle::{read, Stop};
+use oracle::{read, Rule, Stop};
 
 /// The next script.
 pub fn script(maker: &mut Maker) -> Script {
@@ -20,11 +20,14 @@ pub fn script(maker: &mut Maker) -> Script {
     }
 }
 
-/// A script that the original reads, in tables that hold what is read.
+/// A script that the original reads, by either rule, in tables that hold what is read.
 fn plain(maker: &mut Maker) -> Script {
-    let (text, ends) = (maker.text(), None);
-    let way = [way::STOP, way::GO_ON][maker.roll(2)];
-    Script { way, text, ends }
+    Script {
+        rule: [rule::ONE, rule::TWO][maker.roll(2)],
+        way: [way::STOP, way::GO_ON][maker.roll(2)],
+        text: maker.text(),
+        ends: None,
+    }
 }
 
 /// A script that the original reads without an error, in a node table that is too small. All
@@ -35,12 +38,13 @@ fn few_nodes(maker: &mut Maker) -> Option<Script> {
     if reading.stop != Stop::None || !reading.errors.is_empty() {
         return None;
     }
-    let whole = Whole::of(&text);
+    let whole = Whole::of(Rule::One, &text);
     let ends = whole.statement_numbers();
     let room = maker.roll(*ends.last()? as usize);
     let tokens = reading.tokens.len();
     let kept = ends.iter().filter(|end| **end as usize <= room).count();
     Some(Script {
+        rule: rule::ONE,
         way: way::GO_ON,
         text,
         ends: Some(End {
@@ -77,6 +81,7 @@ fn few_errors(maker: &mut Maker) -> Option<Script> {
     let room = maker.roll(reading.errors.len());
     let tokens = reading.tokens.len();
     Some(Script {
+        rule: rule::ONE,
         way: way::GO_ON,
         text,
         ends: Some(End {

@@ -1,24 +1,27 @@
 //! The scripts of each file.
 
-use expected::records::{outcome, way};
+use expected::records::{outcome, rule, way};
 use expected::scripts::{
-    around, many, LEFT_OF_EQUAL, MESSAGES, MISLEXED, MISLEXED_SMALL, MORE_WAYS, NEWLINES, SMALL,
-    STARS, WAYS, WORKED,
+    around, many, LEFT_OF_EQUAL, MESSAGES, MISLEXED, MISLEXED_SMALL, MORE_WAYS, NEWLINES, RULED,
+    RULED_SMALL, SMALL, STARS, WAYS, WORKED,
 };
 use oracle::{on_large_stack, read};
 
 use super::{End, File, Script};
 
+/// A script that is read by rule one on the original's way, with room enough.
+fn script(text: &str) -> Script {
+    Script {
+        rule: rule::ONE,
+        way: way::GO_ON,
+        text: text.to_string(),
+        ends: None,
+    }
+}
+
 /// Scripts that the original reads as the definition has to.
 fn plain(texts: &[&str]) -> Vec<Script> {
-    texts
-        .iter()
-        .map(|text| Script {
-            way: way::GO_ON,
-            text: text.to_string(),
-            ends: None,
-        })
-        .collect()
+    texts.iter().map(|text| script(text)).collect()
 }
 
 /// Scripts on both ways.
@@ -27,8 +30,7 @@ fn both_ways() -> Vec<Script> {
     let enough = MISLEXED.iter().flat_map(|text| {
         ways.map(|way| Script {
             way,
-            text: text.to_string(),
-            ends: None,
+            ..script(text)
         })
     });
     let small = MISLEXED_SMALL
@@ -36,15 +38,49 @@ fn both_ways() -> Vec<Script> {
         .flat_map(|(text, outcomes, rooms, kept)| {
             [0, 1].map(|at| Script {
                 way: ways[at],
-                text: text.to_string(),
                 ends: Some(End {
                     outcome: outcomes[at],
                     rooms: *rooms,
                     kept: kept[at],
                 }),
+                ..script(text)
             })
         });
     enough.chain(small).collect()
+}
+
+/// Numbers that name no rule, with scripts that would end in several ways, the last with 3.
+const NO_RULE: [(u32, &str); 5] = [
+    (0, ""),
+    (0, "a1"),
+    (3, "1.5"),
+    (0, "$"),
+    (3, "\u{c1}\u{80}"),
+];
+
+/// Scripts by both rules, rule two in tables that are too small, and numbers that name none.
+fn both_rules() -> Vec<Script> {
+    let rules = [rule::ONE, rule::TWO];
+    let enough = RULED.iter().flat_map(|text| {
+        rules.map(|rule| Script {
+            rule,
+            ..script(text)
+        })
+    });
+    let small = ending(RULED_SMALL).into_iter().map(|script| Script {
+        rule: rule::TWO,
+        ..script
+    });
+    let none = NO_RULE.map(|(rule, text)| Script {
+        rule,
+        ends: Some(End {
+            outcome: outcome::WRONG_RULE,
+            rooms: [3; 3],
+            kept: [0; 3],
+        }),
+        ..script(text)
+    });
+    enough.chain(small).chain(none).collect()
 }
 
 /// Scripts that end in a way that the original doesn't know: the outcome, the tables' rooms, and
@@ -53,20 +89,19 @@ fn ending(scripts: &[(&str, u32, [usize; 3], [usize; 3])]) -> Vec<Script> {
     scripts
         .iter()
         .map(|&(text, outcome, rooms, kept)| Script {
-            way: way::GO_ON,
-            text: text.to_string(),
             ends: Some(End {
                 outcome,
                 rooms,
                 kept,
             }),
+            ..script(text)
         })
         .collect()
 }
 
 /// Levels: for each way to open them the most that are read, and one more, which is one too many.
 fn levels(ways: &[(&str, usize, &str, &str)]) -> Vec<Script> {
-    let script = |&(open, count, inner, close): &(&str, usize, &str, &str)| {
+    let both = |&(open, count, inner, close): &(&str, usize, &str, &str)| {
         let text = around(open, count + 1, inner, close);
         let tokens = on_large_stack(|| read(&text).tokens.len());
         let deeper = ending(&[(
@@ -78,7 +113,7 @@ fn levels(ways: &[(&str, usize, &str, &str)]) -> Vec<Script> {
         let read = plain(&[&around(open, count, inner, close)]);
         read.into_iter().chain(deeper)
     };
-    ways.iter().flat_map(script).collect()
+    ways.iter().flat_map(both).collect()
 }
 
 /// A list of names of a length, and one that is longer by one.
@@ -123,6 +158,11 @@ pub fn files() -> Vec<File> {
             name: "Ways",
             comment: "Both ways of a reading: where lexing records an error, the old one with what the original answers, the new one with what its lexer does.",
             scripts: both_ways(),
+        },
+        File {
+            name: "Rules",
+            comment: "Both rules: rule one with what the original answers, rule two with what it answers with its three lines changed; and numbers that name no rule.",
+            scripts: both_rules(),
         },
         File {
             name: "Limits",

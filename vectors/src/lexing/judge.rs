@@ -7,9 +7,10 @@ use crate::sheet::hex;
 use expected::records::message::{LEXERS, UNCLOSED};
 use expected::records::token::SHOWN;
 use expected::records::{outcome, sort, ERROR_WORDS, LONGEST, TOKEN_WORDS};
+use expected::rules::named;
 use oracle::state::InterpreterError;
 use oracle::token::{Literal, TokenData};
-use oracle::{message_number, Stop};
+use oracle::{message_number, read_by, Rule, Stop};
 use std::ops::Range;
 
 /// What lexing does, one thing after the other; a record is the fields of the answer.
@@ -21,9 +22,10 @@ enum Event {
     Cut,
 }
 
-/// The whole answer, with tables of so many words.
-pub fn answer(source: &[u8], token_words: usize, error_words: usize) -> String {
-    let kept = keep(source, token_words / TOKEN_WORDS, error_words / ERROR_WORDS);
+/// The whole answer to a rule's number and a source, with tables of so many words.
+pub fn answer(rule: u32, source: &[u8], token_words: usize, error_words: usize) -> String {
+    let (token_room, error_room) = (token_words / TOKEN_WORDS, error_words / ERROR_WORDS);
+    let kept = keep(rule, source, token_room, error_room);
     let counts = format!(
         "{} {} {}",
         kept.outcome,
@@ -36,8 +38,8 @@ pub fn answer(source: &[u8], token_words: usize, error_words: usize) -> String {
 }
 
 /// How many tokens and errors a script has, with room for all.
-pub fn counts(source: &[u8]) -> (usize, usize) {
-    let all = keep(source, usize::MAX, usize::MAX);
+pub fn counts(rule: u32, source: &[u8]) -> (usize, usize) {
+    let all = keep(rule, source, usize::MAX, usize::MAX);
     (all.tokens.len(), all.errors.len())
 }
 
@@ -48,10 +50,14 @@ struct Kept {
     errors: Vec<String>,
 }
 
-/// Document 01, 'Outcomes': 4 is tested first, then 3; after that the first event in reading
-/// order decides, and what came before is kept.
-fn keep(source: &[u8], token_room: usize, error_room: usize) -> Kept {
+/// Document 01, 'Outcomes', with the rule before them: 13 is tested first, then 4, then 3; after that
+/// the first event in reading order decides, and what came before is kept.
+fn keep(rule: u32, source: &[u8], token_room: usize, error_room: usize) -> Kept {
     let mut kept = Kept::default();
+    let Some(rule) = named(rule) else {
+        kept.outcome = outcome::WRONG_RULE;
+        return kept;
+    };
     if source.len() > LONGEST {
         kept.outcome = outcome::TOO_LONG;
         return kept;
@@ -60,7 +66,7 @@ fn keep(source: &[u8], token_room: usize, error_room: usize) -> Kept {
         kept.outcome = outcome::NO_TEXT;
         return kept;
     };
-    for event in events(script) {
+    for event in events(rule, script) {
         match event {
             Event::Cut => kept.outcome = outcome::POINT_AT_END,
             Event::Token(..) if kept.tokens.len() == token_room => {
@@ -82,9 +88,9 @@ fn keep(source: &[u8], token_room: usize, error_room: usize) -> Kept {
 /// The original's tokens and errors, each put where the source has it. The original tells where an
 /// error stands but not where a token does, so the source is walked: the next token is the first
 /// that no blank, comment or error takes, and its bytes must be there.
-fn events(script: &str) -> Vec<Event> {
+fn events(rule: Rule, script: &str) -> Vec<Event> {
     let source = script.as_bytes();
-    let reading = oracle::read(script);
+    let reading = read_by(rule, script);
     let mut tokens = reading.tokens.iter();
     let mut errors = reading
         .errors
@@ -137,12 +143,12 @@ fn event(token: &TokenData, source: &[u8], place: Range<usize>, begins: u32) -> 
 }
 
 /// The words of each token of a text that an outline has.
-pub fn token_words(script: &str) -> Vec<[u32; SHOWN.len()]> {
+pub fn token_words(rule: Rule, script: &str) -> Vec<[u32; SHOWN.len()]> {
     let words = |event| match event {
         Event::Token(_, words) => Some(words),
         _ => None,
     };
-    events(script).into_iter().filter_map(words).collect()
+    events(rule, script).into_iter().filter_map(words).collect()
 }
 
 /// The number of an error's message.

@@ -22,6 +22,17 @@ pub fn fixed() -> Vec<Vec<u8>> {
     scripts
 }
 
+/// Scripts that rule two might read differently: those about the lexer's rules, keywords, single bytes
+/// and numbers.
+pub fn about_rule_two() -> Vec<Vec<u8>> {
+    let mut scripts: Vec<Vec<u8>> = RULES.iter().map(|s| s.as_bytes().to_vec()).collect();
+    scripts.extend((0..=0x7f).flat_map(|byte| [vec![b'a', byte, b'1'], vec![b'1', byte]]));
+    for group in [keywords(), numbers()] {
+        scripts.extend(group.into_iter().map(String::into_bytes));
+    }
+    scripts
+}
+
 /// Each mark alone, twice, before `=` and between other tokens.
 fn marks() -> Vec<String> {
     let forms = |m: &&str| {
@@ -275,7 +286,10 @@ pub const FOR_SHORT_TABLES: [&str; 9] = [
     "a ! \"\n\" ? 2.5",
 ];
 
-/// The pieces of random scripts.
+/// The same for rule two: a name with a digit, and numbers that would cut rule one's lexing.
+pub const FOR_SHORT_TABLES_BY_TWO: [&str; 4] = ["a1", "1.5", "2.", "a1 ! \"\n\" ? 2.5"];
+
+/// The pieces of random scripts. Digits behind letters are among what comes of them.
 pub const PIECES: [&[u8]; 48] = [
     b"a",
     b"_b",
