@@ -4,11 +4,13 @@
 //! and tables of any size, and writes nothing beyond them; its promise, which is proved, says what
 //! every word is afterwards (docs/PROMISES.md).
 
+use crate::options::Options;
+
 /// What a reading answers.
 #[repr(C)]
 #[derive(Debug, Clone, Copy, PartialEq, Eq, Default)]
 pub struct Answer {
-    /// Document 01's number: 0 to 8 and 11, for a read of one statement also 18 and 19.
+    /// Document 01's number: 0 to 8, 11 and 13, for a read of one statement also 18 and 19.
     pub outcome: u32,
     /// How many token records are kept.
     pub tokens: u32,
@@ -24,7 +26,7 @@ pub struct Answer {
 #[repr(C)]
 #[derive(Debug, Clone, Copy, PartialEq, Eq, Default)]
 pub struct Scanned {
-    /// Document 01's number: 0 or 2 to 6.
+    /// Document 01's number: 0, 2 to 6 or 13.
     pub outcome: u32,
     /// How many token records are kept.
     pub tokens: u32,
@@ -43,10 +45,13 @@ pub struct Decoded {
 }
 
 /// What reading one statement at a time keeps between two calls. Any value gets an answer. The caller sets
-/// the way before `begin`; the other words are the calls' own.
+/// the rule and the way before `begin`, as [`Parser::new`] does; the other words are the calls' own.
 #[repr(C)]
 #[derive(Debug, Clone, Copy, PartialEq, Eq, Default)]
 pub struct Parser {
+    /// The rule, 1 or 2. Both calls look at it: any other number is refused with 13, and nothing is
+    /// changed. No call changes it.
+    pub rule: u32,
     /// The way: 0 stops after a lexing that recorded an error, any other number goes on. `begin` looks at
     /// it, and no call changes it.
     pub way: u32,
@@ -71,11 +76,13 @@ pub struct Parser {
 }
 
 /// Reads a source into three tables: what it makes of it, and every word of the tables afterwards, is
-/// fixed by the definition `reading` for any way, any bytes and tables of any size.
+/// fixed by the definition `reading` for any rule, any way, any bytes and tables of any size.
 ///
-/// [`way`](crate::records::way) has the ways' numbers; any number but 0 is the old way. Word counts are
-/// the slices' lengths; [`tables`](crate::tables) has how many words a record is.
+/// [`rule`](crate::records::rule) has the rules' numbers; any other is refused with 13, before all else,
+/// and nothing is changed. [`way`](crate::records::way) has the ways'; any number but 0 is the old way.
+/// Word counts are the slices' lengths; [`tables`](crate::tables) has how many words a record is.
 pub fn read(
+    rule: u32,
     way: u32,
     source: &[u8],
     tokens: &mut [u32],
@@ -85,6 +92,7 @@ pub fn read(
     // Each pointer and its length are one slice's, and the three tables are lent alone.
     unsafe {
         c::kettleplume_read(
+            rule,
             way,
             source.as_ptr(),
             source.len(),
@@ -98,11 +106,12 @@ pub fn read(
     }
 }
 
-/// Lexes a source into two tables, without parsing.
-pub fn scan(source: &[u8], tokens: &mut [u32], errors: &mut [u32]) -> Scanned {
+/// Lexes a source into two tables, without parsing. The rule is as in [`read`].
+pub fn scan(rule: u32, source: &[u8], tokens: &mut [u32], errors: &mut [u32]) -> Scanned {
     // As in `read`.
     unsafe {
         kettleplume_scan(
+            rule,
             source.as_ptr(),
             source.len(),
             tokens.as_mut_ptr(),
@@ -114,6 +123,7 @@ pub fn scan(source: &[u8], tokens: &mut [u32], errors: &mut [u32]) -> Scanned {
 }
 
 /// Decodes the string whose opening quote stands at `start`. A refusal leaves the buffer as it was.
+/// Strings are the same by both rules.
 pub fn decode(source: &[u8], start: usize, buffer: &mut [u8]) -> Decoded {
     // As in `read`.
     unsafe {
@@ -128,8 +138,18 @@ pub fn decode(source: &[u8], start: usize, buffer: &mut [u8]) -> Decoded {
 }
 
 impl Parser {
-    /// Lexes a source, whatever the parser was but for its way, and makes ready to read its statements.
-    /// 19 says that there is one to read; any other answer is final.
+    /// A parser with which a reading is begun by a rule and on a way.
+    pub fn new(options: Options) -> Parser {
+        Parser {
+            rule: options.rule.number(),
+            way: options.way.number(),
+            ..Parser::default()
+        }
+    }
+
+    /// Lexes a source, whatever the parser was but for its rule and its way, and makes ready to read its
+    /// statements. 19 says that there is one to read; 13, that the rule is none, and nothing is changed,
+    /// not even the parser; any other answer is final.
     pub fn begin(
         &mut self,
         source: &[u8],
@@ -141,8 +161,8 @@ impl Parser {
     }
 
     /// Reads one top-level statement, over the source and the tables as the last call left them. 19
-    /// says that there is another; 18, that parser and tables don't go together, and nothing is
-    /// changed; any other answer is final, and is given again from then on.
+    /// says that there is another; 18, that parser and tables don't go together, and 13, that the rule
+    /// is none, and nothing is changed; any other answer is final, and is given again from then on.
     // It is lent tables at each call, so it is no iterator.
     #[allow(clippy::should_implement_trait)]
     pub fn next(
@@ -182,6 +202,7 @@ impl Parser {
 
 extern "C" {
     fn kettleplume_scan(
+        rule: u32,
         source: *const u8,
         length: usize,
         tokens: *mut u32,
@@ -235,7 +256,7 @@ macro_rules! answering {
 
 answering! {
     kettleplume_read(
-        way: u32, source: *const u8, length: usize, tokens: *mut u32, token_words: usize,
+        rule: u32, way: u32, source: *const u8, length: usize, tokens: *mut u32, token_words: usize,
         errors: *mut u32, error_words: usize, nodes: *mut u32, node_words: usize
     );
     kettleplume_begin(

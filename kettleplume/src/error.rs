@@ -12,7 +12,7 @@ use crate::records::outcome;
 pub enum Error {
     /// 1: a mistake after which the rest can't be read. The last recorded error says which.
     Stopped,
-    /// 2: a number with a point runs to the last byte of the script.
+    /// 2: a number with a point runs to the last byte of the script. Rule two doesn't know it.
     PointAtEnd,
     /// 3: the bytes are no text, which is what Rust takes as a `str`.
     NoText,
@@ -32,6 +32,8 @@ pub enum Error {
     BufferRoom,
     /// 11: the lexer recorded errors, and so nothing was parsed.
     NotParsed,
+    /// 13: the number that was given names no rule.
+    WrongRule,
     /// 18: the parser and the tables that were lent don't go together.
     Mismatch,
     /// No number of document 01's: the records are whole, but as trees, which repeat what records
@@ -43,7 +45,7 @@ pub enum Error {
 
 impl Error {
     /// All that have a number, in its order.
-    pub const NUMBERED: [Error; 12] = [
+    pub const NUMBERED: [Error; 13] = [
         Error::Stopped,
         Error::PointAtEnd,
         Error::NoText,
@@ -55,6 +57,7 @@ impl Error {
         Error::NoString,
         Error::BufferRoom,
         Error::NotParsed,
+        Error::WrongRule,
         Error::Mismatch,
     ];
 
@@ -79,6 +82,7 @@ impl Error {
             Error::NoString => outcome::NO_STRING,
             Error::BufferRoom => outcome::BUFFER_ROOM,
             Error::NotParsed => outcome::NOT_PARSED,
+            Error::WrongRule => outcome::WRONG_RULE,
             Error::Mismatch => outcome::MISMATCH,
             Error::TreesTooLarge | Error::OtherTokens => return None,
         })
@@ -104,6 +108,7 @@ impl fmt::Display for Error {
             Error::NotParsed => {
                 "the script has mistakes in its words or marks, so its statements were not read"
             }
+            Error::WrongRule => "there are rules 1 and 2 and no other: nothing was read",
             Error::Mismatch => {
                 "the parser and the tables don't go together: nothing was read, and nothing changed"
             }

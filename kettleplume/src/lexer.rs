@@ -1,6 +1,7 @@
 //! What stands in for the original's `lexer.rs`.
 
 use crate::error::Error;
+use crate::options::Rule;
 use crate::stand_in;
 use crate::state::InterpreterState;
 
@@ -32,7 +33,7 @@ impl Lexer<'_> {
         if let Some(line) = self.line {
             return stand_in::close(&mut self.state.tokens, line);
         }
-        let (end, line) = stand_in::lex(self.state);
+        let (end, line) = stand_in::lex(Rule::One, self.state);
         if matches!(end, Ok(()) | Err(Error::PointAtEnd)) {
             self.line = Some(line);
         }

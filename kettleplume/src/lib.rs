@@ -39,6 +39,17 @@
 //! assert_eq!((script.errors.len(), script.stmts.len()), (1, 0));
 //! ```
 //!
+//! Scripts may be written for rule two, in which names have digits: [`Rule`] says what else is different,
+//! and [`read_as`] takes it. Everything that isn't told the rule reads by rule one, the original's.
+//!
+//! ```
+//! use kettleplume::{read_as, Options, Rule, Tables};
+//!
+//! let options = Options { rule: Rule::Two, ..Options::default() };
+//! let script = read_as(options, &mut Tables::new(), "let stop8 = 2.5");
+//! assert_eq!((script.end, script.errors.len()), (Ok(()), 0));
+//! ```
+//!
 //! # In the original's place
 //!
 //! Code that was written for Grotsky's lexer, parser and state compiles when its `use` lines name this
@@ -99,14 +110,15 @@
 //! let mut tokens = vec![0; TOKEN_WORDS * rooms.tokens];
 //! let mut errors = vec![0; ERROR_WORDS * rooms.errors];
 //! let mut nodes = vec![0; NODE_WORDS * rooms.nodes];
-//! let answer = border::read(0, source, &mut tokens, &mut errors, &mut nodes);
+//! let answer = border::read(1, 0, source, &mut tokens, &mut errors, &mut nodes);
 //! assert_eq!((answer.outcome, answer.tokens, answer.nodes), (0, 5, 4));
 //! // The first statement is node 4: an expression, whose last token is the third.
 //! assert_eq!(answer.first, 4);
 //! assert_eq!(nodes[NODE_WORDS * 3..NODE_WORDS * 4], [30, 3, 0, 0, 3, 0, 0, 0, 0]);
 //! ```
 //!
-//! [`records`] has the kinds of nodes, the outcomes, the ways and which word of a record is what, by name.
+//! [`records`] has the kinds of nodes, the outcomes, the rules, the ways and which word of a record is what,
+//! by name.
 //! [`Tables`] does the lending, [`values`] turns token and error records into the original's values, and
 //! [`unfold`] turns nodes into its statements. [`border::Parser`] reads one statement at a time.
 //!
@@ -171,7 +183,7 @@ pub mod token {
 pub use discard::discard;
 pub use error::Error;
 pub use messages::{message, MESSAGES};
-pub use options::{Options, Way};
+pub use options::{Options, Rule, Way};
 pub use recorded::Recorded;
 pub use script::{read, read_as, read_with, Parts, Script};
 pub use stand_in::{parse, read_state, read_state_as, scan};

@@ -1,5 +1,5 @@
 //! Document 01's numbers by name: how many words a record has and what stands in each, the kinds of
-//! nodes, the outcomes, the ways to read and some messages.
+//! nodes, the outcomes, the rules, the ways to read and some messages.
 //!
 //! These are the only definitions on the Rust side. The crates that compare with the original compile
 //! this file too, and hand the widths on to what they compile of C.
@@ -153,10 +153,21 @@ pub mod outcome {
     pub const BUFFER_ROOM: u32 = 10;
     /// Lexing recorded an error, and so nothing is parsed.
     pub const NOT_PARSED: u32 = 11;
+    /// The number that was given names no rule.
+    pub const WRONG_RULE: u32 = 13;
     /// The parser and the tables that were lent don't go together.
     pub const MISMATCH: u32 = 18;
     /// There is another statement to read.
     pub const MORE: u32 = 19;
+}
+
+/// The rules that a script can be written for. Every other number is refused.
+pub mod rule {
+    /// The original's.
+    pub const ONE: u32 = 1;
+    /// Names may have digits behind the first byte, an enhanced for gives its loop count back, and a
+    /// number with a point may end the script.
+    pub const TWO: u32 = 2;
 }
 
 /// What a reading does where lexing came to its end and recorded an error.

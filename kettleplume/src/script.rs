@@ -38,15 +38,15 @@ pub struct Script {
     ///   [`TooDeep`](Error::TooDeep): tokens and errors are there, and the statements before the one
     ///   in which that happened.
     /// - [`PointAtEnd`](Error::PointAtEnd), where the original panics too: tokens and errors before
-    ///   that number are there, and no statement.
+    ///   that number are there, and no statement. By rule two there is no such end.
     /// - [`NoText`](Error::NoText) and [`TooLong`](Error::TooLong): nothing is there.
     /// - [`TreesTooLarge`](Error::TreesTooLarge): as for a stop. If reading stopped as well, behind
     ///   those statements, the last error tells it.
     pub end: Result<(), Error>,
 }
 
-/// Reads a script. Where the lexer records errors the statements are not read; [`read_as`] can choose
-/// otherwise.
+/// Reads a script by rule one. Where the lexer records errors the statements are not read; [`read_as`]
+/// can choose otherwise, and rule two.
 ///
 /// ```
 /// let script = kettleplume::read("stop = \"Gemshorn\"\n");
@@ -78,10 +78,10 @@ pub fn read_with(tables: &mut Tables, source: impl AsRef<[u8]>) -> Script {
     read_as(Options::default(), tables, source)
 }
 
-/// Reads a script in the way that is chosen.
+/// Reads a script by the rule and in the way that are chosen.
 ///
 /// ```
-/// use kettleplume::{read_as, Error, Options, Tables, Way};
+/// use kettleplume::{read_as, Error, Options, Rule, Tables, Way};
 ///
 /// let (mut tables, source) = (Tables::new(), "let stop = $8\n");
 /// let script = read_as(Options::default(), &mut tables, source);
@@ -89,6 +89,12 @@ pub fn read_with(tables: &mut Tables, source: impl AsRef<[u8]>) -> Script {
 /// let options = Options { way: Way::GoOn, ..Options::default() };
 /// let script = read_as(options, &mut tables, source);
 /// assert_eq!((script.end, script.stmts.len()), (Ok(()), 1));
+///
+/// // By rule two this is a name, and by rule one a name and a number.
+/// let options = Options { rule: Rule::Two, ..Options::default() };
+/// let [two, one] = [options, Options::default()]
+///     .map(|options| read_as(options, &mut tables, "stop8\n").tokens[0].lexeme.clone());
+/// assert_eq!([two, one], ["stop8", "stop"]);
 /// ```
 pub fn read_as(options: Options, tables: &mut Tables, source: impl AsRef<[u8]>) -> Script {
     let source = source.as_ref();

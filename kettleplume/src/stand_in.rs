@@ -1,7 +1,7 @@
 //! Reading into the original's state: what stands in for its lexer and its parser.
 
 use crate::error::Error;
-use crate::options::{Options, Way};
+use crate::options::{Options, Rule, Way};
 use crate::records::{error, outcome, token};
 use crate::script::{ended, statements};
 use crate::state::{InterpreterError, InterpreterState};
@@ -21,13 +21,17 @@ use crate::values;
 /// assert_eq!(state.tokens.len(), 2);
 /// ```
 pub fn scan(state: &mut InterpreterState) -> Result<(), Error> {
-    lex(state).0
+    lex(Rule::One, state).0
 }
 
-/// The same, with the line that the source ends in.
-pub(crate) fn lex(state: &mut InterpreterState) -> (Result<(), Error>, i32) {
+/// The same by a rule, with the line that the source ends in.
+pub(crate) fn lex(rule: Rule, state: &mut InterpreterState) -> (Result<(), Error>, i32) {
     let mut tables = Tables::new();
-    let records = tables.scan(state.source.as_bytes());
+    let options = Options {
+        rule,
+        ..Options::default()
+    };
+    let records = tables.scan_as(options, state.source.as_bytes());
     let source = state.source.as_bytes();
     let tokens = records.tokens.iter().map(|t| values::token(source, t));
     let errors = records.errors.iter().map(values::error);
@@ -76,9 +80,15 @@ pub(crate) fn close(tokens: &mut Vec<TokenData>, line: i32) {
 /// What the lexer recorded doesn't matter: this stands for code that calls the original's parser, which
 /// is called or not.
 pub fn parse(state: &mut InterpreterState) -> Result<(), Error> {
+    parse_by(Rule::One, state)
+}
+
+/// The same by a rule.
+fn parse_by(rule: Rule, state: &mut InterpreterState) -> Result<(), Error> {
     let mut tables = Tables::new();
     let source = state.source.as_bytes();
-    let records = tables.read_as(Options { way: Way::GoOn }, source);
+    let way = Way::GoOn;
+    let records = tables.read_as(Options { rule, way }, source);
     // What is refused, or stops in lexing, has no tokens to be compared.
     if matches!(
         records.answer.outcome,
@@ -115,7 +125,7 @@ pub fn read_state(state: &mut InterpreterState) -> Result<(), Error> {
     read_state_as(Options::default(), state)
 }
 
-/// The same in the way that is chosen.
+/// The same by the rule and in the way that are chosen.
 ///
 /// ```
 /// use kettleplume::state::InterpreterState;
@@ -130,11 +140,11 @@ pub fn read_state_as(options: Options, state: &mut InterpreterState) -> Result<(
     // What tokens that are there already do to the reading is for the two to tell.
     if !state.tokens.is_empty() {
         let recorded = state.errors.len();
-        scan(state)?;
+        lex(options.rule, state).0?;
         if options.way == Way::Stop && state.errors.len() > recorded {
             return Err(Error::NotParsed);
         }
-        return parse(state);
+        return parse_by(options.rule, state);
     }
     let script = crate::read_as(options, &mut Tables::new(), &state.source).into_parts();
     state.tokens = script.tokens;

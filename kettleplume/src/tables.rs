@@ -68,18 +68,19 @@ impl Tables {
         Tables::default()
     }
 
-    /// Reads a source; there is always room enough.
+    /// Reads a source by rule one; there is always room enough.
     pub fn read(&mut self, source: &[u8]) -> Records<'_> {
         self.read_as(Options::default(), source)
     }
 
-    /// The same in the way that is chosen.
+    /// The same by the rule and in the way that are chosen.
     pub fn read_as(&mut self, options: Options, source: &[u8]) -> Records<'_> {
         let rooms = Rooms::enough(source.len());
         let tokens = lent(&mut self.tokens, TOKEN_WORDS * rooms.tokens);
         let errors = lent(&mut self.errors, ERROR_WORDS * rooms.errors);
         let nodes = lent(&mut self.nodes, NODE_WORDS * rooms.nodes);
-        let answer = border::read(options.way.number(), source, tokens, errors, nodes);
+        let (rule, way) = (options.rule.number(), options.way.number());
+        let answer = border::read(rule, way, source, tokens, errors, nodes);
         Records {
             answer,
             tokens: &tokens.as_chunks().0[..answer.tokens as usize],
@@ -88,8 +89,13 @@ impl Tables {
         }
     }
 
-    /// Lexes a source without parsing it: the answer has no nodes and no first statement.
+    /// Lexes a source by rule one without parsing it: the answer has no nodes and no first statement.
     pub fn scan(&mut self, source: &[u8]) -> Records<'_> {
+        self.scan_as(Options::default(), source)
+    }
+
+    /// The same by the rule that is chosen. The way is no matter of lexing.
+    pub fn scan_as(&mut self, options: Options, source: &[u8]) -> Records<'_> {
         let rooms = Rooms::enough(source.len());
         let token_words = lent(&mut self.tokens, TOKEN_WORDS * rooms.tokens);
         let error_words = lent(&mut self.errors, ERROR_WORDS * rooms.errors);
@@ -97,7 +103,7 @@ impl Tables {
             outcome,
             tokens,
             errors,
-        } = border::scan(source, token_words, error_words);
+        } = border::scan(options.rule.number(), source, token_words, error_words);
         Records {
             answer: Answer {
                 outcome,

@@ -4,9 +4,10 @@
 use std::ops::Range;
 
 use expected::lexing::{expect, expect_decoding};
+use expected::rules::WRONG;
 use expected::whole::{self, known, Known};
-use kettleplume::border::{decode, read, scan, Answer, Decoded, Parser};
-use kettleplume::records::{outcome, way, ERROR_WORDS, LONGEST, NODE_WORDS, TOKEN_WORDS};
+use kettleplume::border::{decode, read, scan, Answer, Decoded, Parser, Scanned};
+use kettleplume::records::{outcome, rule, way, ERROR_WORDS, LONGEST, NODE_WORDS, TOKEN_WORDS};
 
 /// What stood in a table before.
 const BEFORE: u32 = 0x5a5a_5a5a;
@@ -61,13 +62,18 @@ impl Lent {
         }
     }
 
-    fn read(&mut self, way: u32, source: &[u8]) -> Answer {
+    fn read(&mut self, rule: u32, way: u32, source: &[u8]) -> Answer {
         let Lent {
             tokens,
             errors,
             nodes,
         } = self;
-        read(way, source, tokens.lent(), errors.lent(), nodes.lent())
+        let (tokens, errors, nodes) = (tokens.lent(), errors.lent(), nodes.lent());
+        read(rule, way, source, tokens, errors, nodes)
+    }
+
+    fn scan(&mut self, rule: u32, source: &[u8]) -> Scanned {
+        scan(rule, source, self.tokens.lent(), self.errors.lent())
     }
 
     fn begin(&mut self, parser: &mut Parser, source: &[u8]) -> Answer {
@@ -89,11 +95,13 @@ impl Lent {
     }
 }
 
+const RULES: [u32; 2] = [rule::ONE, rule::TWO];
+
 /// Each number but 0 is the old way.
 const ANY_WAYS: [u32; 4] = [way::STOP, way::GO_ON, 2, u32::MAX];
 
-/// Scripts with all outcomes but 3, 4 and 8; these come in tests of their own.
-const SCRIPTS: [&str; 12] = [
+/// Scripts with all outcomes but 3, 4, 8 and 13; these come in tests of their own.
+const SCRIPTS: [&str; 14] = [
     "",
     "\n",
     "a = 1\n",
@@ -106,6 +114,8 @@ const SCRIPTS: [&str; 12] = [
     "class A < B { f() 1 }\n",
     "if a {} elif b {} else {}\n",
     "(a b",
+    "a1 = b_2\n",
+    "for a in b {}\nbreak\n",
 ];
 
 /// Rooms around what a reading needs: none, one less of each, just enough, one more, and a mixture.
@@ -122,16 +132,32 @@ fn rooms(needs: [usize; 3]) -> Vec<[usize; 3]> {
     all
 }
 
-/// Runs a test over each script, with rooms and spare tails of many sizes, and tells how often.
-fn over_tables(mut one: impl FnMut(&str, &whole::Whole, [usize; 3], usize)) -> usize {
+/// A script by a rule, in tables with these rooms and a spare tail.
+struct Tried<'a> {
+    rule: u32,
+    script: &'a str,
+    whole: &'a whole::Whole,
+    rooms: [usize; 3],
+    spare: usize,
+}
+
+/// Runs a test over each script by each rule, with rooms and spare tails of many sizes, and tells how
+/// often.
+fn over_tables(mut one: impl FnMut(Tried)) -> usize {
     let mut count = 0;
-    for script in SCRIPTS {
-        let Known::Read(whole) = known(script.as_bytes()) else {
+    for (script, rule) in SCRIPTS.into_iter().flat_map(|s| RULES.map(|r| (s, r))) {
+        let Known::Read(whole) = known(rule, script.as_bytes()) else {
             panic!("{script:?} is read");
         };
         for (spare, rooms) in rooms(whole.needs()).into_iter().enumerate() {
             for spare in [0, spare] {
-                one(script, &whole, rooms, spare);
+                one(Tried {
+                    rule,
+                    script,
+                    whole: &whole,
+                    rooms,
+                    spare,
+                });
                 count += 1;
             }
         }
@@ -152,11 +178,18 @@ fn counts(answer: &whole::Answer) -> Answer {
 #[test]
 fn whole_readings() {
     let mut outcomes = [0; 12];
-    let count = over_tables(|script, whole, rooms, spare| {
+    let count = over_tables(|tried| {
+        let Tried {
+            rule,
+            script,
+            whole,
+            rooms,
+            spare,
+        } = tried;
         for way in ANY_WAYS {
             let expected = whole.on(way, rooms);
             let mut lent = Lent::new(rooms, spare);
-            let answer = lent.read(way, script.as_bytes());
+            let answer = lent.read(rule, way, script.as_bytes());
             assert_eq!(answer, counts(&expected), "{script:?} in {rooms:?}");
             lent.tokens.holds(&expected.tokens, BEFORE);
             lent.errors.holds(&expected.errors, BEFORE);
@@ -175,13 +208,21 @@ fn whole_readings() {
 #[test]
 fn statement_by_statement() {
     let (mut statements, mut stopped) = (0, 0);
-    over_tables(|script, _, rooms, spare| {
+    over_tables(|tried| {
+        let Tried {
+            rule,
+            script,
+            rooms,
+            spare,
+            ..
+        } = tried;
         for way in ANY_WAYS {
             let source = script.as_bytes();
             let (mut at_once, mut lent) = (Lent::new(rooms, spare), Lent::new(rooms, spare));
-            let whole = at_once.read(way, source);
+            let whole = at_once.read(rule, way, source);
             // Whatever else the parser was.
             let mut parser = Parser {
+                rule,
                 way,
                 current: 7,
                 ended: 1,
@@ -200,7 +241,8 @@ fn statement_by_statement() {
             );
             assert_eq!(lent.next(&mut parser, source), answer);
             assert_eq!((answer, lent, parser), left);
-            assert_eq!((parser.way, parser.outcome), (way, answer.outcome));
+            assert_eq!((parser.rule, parser.way), (rule, way));
+            assert_eq!(parser.outcome, answer.outcome);
             stopped += usize::from(answer.outcome == outcome::NOT_PARSED);
         }
     });
@@ -225,12 +267,18 @@ fn a_parser_of_other_tables() {
 
 #[test]
 fn lexings() {
-    let count = over_tables(|script, _, rooms, spare| {
-        let (lexing, _) = expect(script.as_bytes());
+    let count = over_tables(|tried| {
+        let Tried {
+            rule,
+            script,
+            rooms,
+            spare,
+            ..
+        } = tried;
+        let (lexing, _) = expect(rule, script.as_bytes());
         let expected = lexing.within(rooms[0], rooms[1]);
         let mut lent = Lent::new(rooms, spare);
-        let (tokens, errors) = (lent.tokens.lent(), lent.errors.lent());
-        let answer = scan(script.as_bytes(), tokens, errors);
+        let answer = lent.scan(rule, script.as_bytes());
         let counts = [answer.tokens as usize, answer.errors as usize];
         assert_eq!(answer.outcome, expected.outcome, "{script:?} in {rooms:?}");
         assert_eq!(counts, [expected.tokens.len(), expected.errors.len()]);
@@ -258,20 +306,21 @@ fn refused_sources() {
         for rooms in [[0, 0, 0], [3, 3, 3]] {
             let before = Lent::new(rooms, 1);
             let mut lent = before.clone();
-            for way in ANY_WAYS {
-                assert_eq!(lent.read(way, &source), refused);
+            for (rule, way) in RULES.into_iter().flat_map(|r| ANY_WAYS.map(|w| (r, w))) {
+                assert_eq!(lent.read(rule, way, &source), refused);
                 let mut parser = Parser {
+                    rule,
                     way,
                     ..Parser::default()
                 };
                 assert_eq!(lent.begin(&mut parser, &source), refused);
                 assert_eq!(lent.next(&mut parser, &source), refused);
+                let answer = lent.scan(rule, &source);
+                assert_eq!(
+                    (answer.outcome, answer.tokens, answer.errors),
+                    (outcome, 0, 0)
+                );
             }
-            let answer = scan(&source, lent.tokens.lent(), lent.errors.lent());
-            assert_eq!(
-                (answer.outcome, answer.tokens, answer.errors),
-                (outcome, 0, 0)
-            );
             assert_eq!(lent, before);
         }
         let mut buffer = [0xa5; 4];
@@ -281,12 +330,105 @@ fn refused_sources() {
     }
 }
 
+/// A number that names no rule: 13, before what the source would be refused for, and no word changes, in
+/// the parser neither.
+#[test]
+fn numbers_that_name_no_rule() {
+    let refused = Answer {
+        outcome: outcome::WRONG_RULE,
+        ..Answer::default()
+    };
+    let sources = [
+        b"a1 = 1.".to_vec(),
+        vec![],
+        b"a\xff".to_vec(),
+        vec![b'a'; LONGEST + 1],
+    ];
+    for (source, rule) in sources.iter().flat_map(|s| WRONG.map(|r| (s, r))) {
+        for rooms in [[0, 0, 0], [9, 9, 9]] {
+            let before = Lent::new(rooms, 1);
+            let mut lent = before.clone();
+            for way in ANY_WAYS {
+                assert_eq!(lent.read(rule, way, source), refused);
+                let any = Parser {
+                    rule,
+                    way,
+                    current: 1,
+                    loops: 2,
+                    tokens: 3,
+                    errors: 4,
+                    nodes: 5,
+                    first: 6,
+                    last: 7,
+                    ended: way % 2,
+                    outcome: 9,
+                };
+                let mut parser = any;
+                assert_eq!(lent.begin(&mut parser, source), refused);
+                assert_eq!(parser, any);
+            }
+            let answer = lent.scan(rule, source);
+            assert_eq!(
+                (answer.outcome, answer.tokens, answer.errors),
+                (outcome::WRONG_RULE, 0, 0)
+            );
+            assert_eq!(lent, before);
+        }
+    }
+}
+
+/// A read asks first for the final answer, then whether parser and tables go together, then for the rule;
+/// with its rule set right again the reading goes on.
+#[test]
+fn a_rule_that_is_changed_between_calls() {
+    let source = b"a = 1\nb\n";
+    let with = |outcome| Answer {
+        outcome,
+        ..Answer::default()
+    };
+    for rule in WRONG {
+        let (mut at_once, mut lent) = (Lent::new([9, 1, 9], 2), Lent::new([9, 1, 9], 2));
+        let whole = at_once.read(rule::TWO, way::STOP, source);
+        let mut parser = Parser {
+            rule: rule::TWO,
+            ..Parser::default()
+        };
+        assert_eq!(lent.begin(&mut parser, source).outcome, outcome::MORE);
+        let mut wrong = Parser { rule, ..parser };
+        let before = (lent.clone(), wrong);
+        assert_eq!(lent.next(&mut wrong, source), with(outcome::WRONG_RULE));
+        // 18 comes before 13.
+        let mut both = Parser {
+            current: 99,
+            ..wrong
+        };
+        assert_eq!(lent.next(&mut both, source), with(outcome::MISMATCH));
+        assert_eq!(
+            both,
+            Parser {
+                current: 99,
+                ..wrong
+            }
+        );
+        // Nor does a call to begin do anything.
+        assert_eq!(lent.begin(&mut wrong, source), with(outcome::WRONG_RULE));
+        assert_eq!((lent.clone(), wrong), before);
+
+        while lent.next(&mut parser, source).outcome == outcome::MORE {}
+        assert_eq!(lent, at_once);
+        // The final answer comes before both.
+        let mut ended = Parser { rule, ..parser };
+        assert_eq!(lent.next(&mut ended, source), whole);
+        assert_eq!((ended, &lent), (Parser { rule, ..parser }, &at_once));
+    }
+}
+
 /// Too many levels: the statements before are kept, in tables that have room for more.
 #[test]
 fn too_many_levels() {
     let script = "a\n".to_string() + &"{".repeat(129);
     let mut lent = Lent::new([200, 9, 300], 4);
-    let answer = lent.read(way::STOP, script.as_bytes());
+    let answer = lent.read(rule::ONE, way::STOP, script.as_bytes());
     let kept = [answer.outcome, answer.errors, answer.nodes, answer.first];
     assert_eq!(kept, [8, 0, 2, 2]);
     let nodes = [[2, 1, 0, 0, 0, 0, 0, 0, 0], [30, 1, 0, 0, 1, 0, 0, 0, 0]];
@@ -331,7 +473,7 @@ fn decodings() {
 #[test]
 fn worked_example() {
     let mut lent = Lent::new([10, 10, 10], 0);
-    let answer = lent.read(way::STOP, b"a = 1\n");
+    let answer = lent.read(rule::ONE, way::STOP, b"a = 1\n");
     let expected = Answer {
         outcome: 0,
         tokens: 5,

@@ -10,7 +10,7 @@ use std::process::{Command, Output, Stdio};
 use std::sync::atomic::{AtomicUsize, Ordering};
 
 use kettleplume::border::{self, Answer};
-use kettleplume::records::{outcome, way, ERROR_WORDS, NODE_WORDS, TOKEN_WORDS};
+use kettleplume::records::{outcome, rule, way, ERROR_WORDS, NODE_WORDS, TOKEN_WORDS};
 
 /// A folder of one test, with the scripts that it reads.
 struct Folder(PathBuf);
@@ -147,6 +147,54 @@ fn statements_are_read_without_such_mistakes() {
         assert_eq!(new, report(script), "{script:?}");
         assert!(!new.0.contains("were not read"), "{script:?}");
     }
+}
+
+/// By rule one unless rule two is asked for.
+#[test]
+fn both_rules() {
+    let script = "for stop8 in stops { print(stop8) }\nlet pitch = 2.5";
+    let clean = ("s.gr: read, 2 statements, no errors\n".to_string(), 0);
+    for words in [
+        &["read", "--rule", "2", "s.gr"][..],
+        &["read", "--rule=2", "s.gr"],
+        &["read", "s.gr", "--rule", "2"],
+        &["read", "--rule", "1", "--rule", "2", "s.gr"],
+        &["read", "--go-on", "--rule", "2", "s.gr"],
+    ] {
+        assert_eq!(reported(words, script), clean, "{words:?}");
+    }
+    let one = reported(&["read", "s.gr"], script);
+    assert!(one.0.contains("the script ends within a number"), "{one:?}");
+    for words in [
+        &["read", "--rule", "1", "s.gr"][..],
+        &["read", "--rule=1", "s.gr"],
+        &["read", "--", "s.gr"],
+    ] {
+        assert_eq!(reported(words, script), one, "{words:?}");
+    }
+    // Behind the loop there is none.
+    let (out, status) = reported(&["read", "--rule", "2", "s.gr"], "for x in y {}\nbreak\n");
+    assert!(out.starts_with("s.gr:2:1: "), "{out}");
+    assert_eq!(status, 1);
+}
+
+#[test]
+fn outlines_by_both_rules() {
+    let outline = |words: &[&str]| reported(words, "a1");
+    let one = "o 0 4 1 4 2\nt 25 0 1 1 1\nt 27 1 1 1 1\nt 1 2 0 1 1\nt 0 2 0 1 1\ne 4 1 1\n\
+               n 2 1 0 0 0 0 0 0 0\nn 30 1 0 0 1 0 0 0 4\nn 13 2 0 0 0 0 0 0 0\nn 30 2 0 0 3 0 0 0 0\n";
+    let two = "o 0 3 0 2 2\nt 25 0 2 1 1\nt 1 2 0 1 1\nt 0 2 0 1 1\n\
+               n 2 1 0 0 0 0 0 0 0\nn 30 1 0 0 1 0 0 0 0\n";
+    let is = |text: &str, status| (text.to_string(), status);
+    assert_eq!(outline(&["read", "--outline", "s.gr"]), is(one, 1));
+    assert_eq!(
+        outline(&["read", "--outline", "--rule", "1", "s.gr"]),
+        is(one, 1)
+    );
+    assert_eq!(
+        outline(&["read", "--rule", "2", "--outline", "s.gr"]),
+        is(two, 0)
+    );
 }
 
 /// The nightly batch: with --go-on, and in outlines, the command prints of the scripts in `nightly` what
@@ -704,7 +752,7 @@ fn standard_input() {
 }
 
 const USAGE: &str =
-    "usage: kettleplume read [--go-on] [--outline] FILE...\n       kettleplume --help | --version\n";
+    "usage: kettleplume read [--rule N] [--go-on] [--outline] FILE...\n       kettleplume --help | --version\n";
 
 #[test]
 fn words_that_are_not_understood() {
@@ -717,6 +765,28 @@ fn words_that_are_not_understood() {
         (&["read", "--outline"], "a file to read is missing"),
         (&["read", "--go-on"], "a file to read is missing"),
         (&["read", "--"], "a file to read is missing"),
+        (&["read", "--rule"], "the number behind --rule is missing"),
+        (&["read", "--rule", "2"], "a file to read is missing"),
+        (
+            &["read", "--rule", "3", "a.gr"],
+            "there is no rule '3', only 1 and 2",
+        ),
+        (
+            &["read", "--rule", "a.gr"],
+            "there is no rule 'a.gr', only 1 and 2",
+        ),
+        (
+            &["read", "--rule=02", "a.gr"],
+            "there is no rule '02', only 1 and 2",
+        ),
+        (
+            &["read", "--rule=", "a.gr"],
+            "there is no rule '', only 1 and 2",
+        ),
+        (
+            &["read", "--rules", "2", "a.gr"],
+            "there is no option '--rules'",
+        ),
         (&["read", "-o", "a.gr"], "there is no option '-o'"),
         (
             &["read", "a.gr", "--outlines"],
@@ -731,10 +801,11 @@ fn words_that_are_not_understood() {
 
 #[test]
 fn options_end_at_two_dashes() {
-    let folder = Folder::with(&[("--outline", b"a\n"), ("--", b"b\n")]);
-    folder.run(&["read", "--", "--outline", "--"]).is(
+    let folder = Folder::with(&[("--outline", b"a\n"), ("--", b"b\n"), ("--rule", b"c\n")]);
+    folder.run(&["read", "--", "--outline", "--", "--rule"]).is(
         0,
-        "--outline: read, 1 statement, no errors\n--: read, 1 statement, no errors\n",
+        "--outline: read, 1 statement, no errors\n--: read, 1 statement, no errors\n\
+             --rule: read, 1 statement, no errors\n",
         "",
     );
 }
@@ -927,7 +998,14 @@ fn within_rooms(script: &[u8]) -> Option<String> {
         [0; ERROR_WORDS * 256],
         [0; NODE_WORDS * 1600],
     );
-    let answer = border::read(way::GO_ON, script, &mut tokens, &mut errors, &mut nodes);
+    let answer = border::read(
+        rule::ONE,
+        way::GO_ON,
+        script,
+        &mut tokens,
+        &mut errors,
+        &mut nodes,
+    );
     if script.len() > 4096 || (outcome::TOKEN_ROOM..=outcome::NODE_ROOM).contains(&answer.outcome) {
         return None;
     }

@@ -3,19 +3,22 @@
 mod common;
 
 use kettleplume::border;
-use kettleplume::records::{outcome, way, ERROR_WORDS, NODE_WORDS, TOKEN_WORDS};
-use kettleplume::{Error, Options, Rooms, Tables, Way, LONGEST};
+use kettleplume::records::{outcome, rule, way, ERROR_WORDS, NODE_WORDS, TOKEN_WORDS};
+use kettleplume::{Error, Options, Rooms, Rule, Tables, Way, LONGEST};
 
-/// Reads a source with tables of just the rooms that are said to be enough, on the way that keeps more.
+/// Reads a source by each rule with tables of just the rooms that are said to be enough, on the way that
+/// keeps more.
 fn has_room(tables: &mut Tables, source: &[u8]) {
-    let options = Options { way: Way::GoOn };
-    let outcome = tables.read_as(options, source).answer.outcome;
-    let shown = source.escape_ascii();
-    let full = matches!(
-        outcome,
-        outcome::TOKEN_ROOM | outcome::ERROR_ROOM | outcome::NODE_ROOM
-    );
-    assert!(!full, "outcome {outcome} of {shown}");
+    for rule in [Rule::One, Rule::Two] {
+        let way = Way::GoOn;
+        let outcome = tables.read_as(Options { rule, way }, source).answer.outcome;
+        let shown = source.escape_ascii();
+        let full = matches!(
+            outcome,
+            outcome::TOKEN_ROOM | outcome::ERROR_ROOM | outcome::NODE_ROOM
+        );
+        assert!(!full, "outcome {outcome} of {shown}");
+    }
 }
 
 /// All sequences of so many pieces.
@@ -107,7 +110,14 @@ fn the_bound_for_tokens_is_met() {
             let mut errors = vec![0; ERROR_WORDS * rooms.errors];
             let mut nodes = vec![0; NODE_WORDS * rooms.nodes];
             let source = source.as_bytes();
-            border::read(way::GO_ON, source, &mut tokens, &mut errors, &mut nodes)
+            border::read(
+                rule::ONE,
+                way::GO_ON,
+                source,
+                &mut tokens,
+                &mut errors,
+                &mut nodes,
+            )
         };
         let answer = read(rooms.tokens);
         assert_eq!(

@@ -11,12 +11,12 @@ use expected::whole::Whole;
 use kettleplume::lexer::Lexer;
 use kettleplume::parser::Parser;
 use kettleplume::state::{InterpreterError, InterpreterState};
-use kettleplume::{parse, read_state, read_state_as, scan, Error, Options, Tables, Way};
+use kettleplume::{parse, read_state, read_state_as, scan, Error, Options, Tables};
 use oracle::state::InterpreterState as Original;
-use oracle::{on_large_stack, Reading, Stop};
+use oracle::{on_large_stack, Reading, Rule, Stop};
 
 /// The way of the original.
-const GOING_ON: Options = Options { way: Way::GoOn };
+const GOING_ON: Options = Options::ORIGINAL;
 
 thread_local! {
     /// Whether this thread waits for a panic.
@@ -55,7 +55,11 @@ fn left_by_the_original(script: &str, reading: &Reading) -> String {
         errors: reading.errors.clone(),
         stmts: reading.stmts.clone(),
     };
-    for (error, [_, _, pos]) in state.errors.iter_mut().zip(Whole::of(script).errors()) {
+    for (error, [_, _, pos]) in state
+        .errors
+        .iter_mut()
+        .zip(Whole::of(Rule::One, script).errors())
+    {
         error.pos = *pos as usize;
     }
     format!("{state:?}")

@@ -1,11 +1,11 @@
 //! The safe call gives, on the old way, what the original gives: tokens, errors, statements, and where
-//! it stops.
+//! it stops. By rule two it gives what the original does with that rule's lines changed.
 
 mod common;
 
 use expected::whole::Whole;
-use kettleplume::{read, read_as, read_with, Error, Options, Tables, Way};
-use oracle::{on_large_stack, Reading, Stop};
+use kettleplume::{read, read_as, read_with, Error, Options, Rule, Tables};
+use oracle::{on_large_stack, read_by, Reading, Stop};
 
 /// How many scripts ended in each way.
 #[derive(Debug, Default)]
@@ -22,16 +22,24 @@ fn same<A: std::fmt::Debug, B: std::fmt::Debug>(ours: &[A], original: &[B], what
     assert_eq!(format!("{ours:?}"), format!("{original:?}"), "{what}");
 }
 
-fn compare(script: &str, tables: &mut Tables, ends: &mut Ends) {
-    let ours = read_as(Options { way: Way::GoOn }, tables, script);
-    let original: Reading = oracle::read(script);
+fn compare(rule: Rule, script: &str, tables: &mut Tables, ends: &mut Ends) {
+    let options = Options {
+        rule,
+        ..Options::ORIGINAL
+    };
+    let ours = read_as(options, tables, script);
+    let rule = match rule {
+        Rule::One => oracle::Rule::One,
+        Rule::Two => oracle::Rule::Two,
+    };
+    let original: Reading = read_by(rule, script);
     let what = format!("of {script:?}");
     same(&ours.tokens, &original.tokens, &what);
     let errors = ours.errors.iter();
     let records: Vec<_> = errors
         .map(|e| [e.number, e.recorded_line as u32, e.pos as u32])
         .collect();
-    assert_eq!(records, Whole::of(script).errors(), "{what}");
+    assert_eq!(records, Whole::of(rule, script).errors(), "{what}");
     // The original goes on where a level too many opens: then only what came before is compared.
     let stmts = match ours.end {
         Err(Error::TooDeep) => ours.stmts.len(),
@@ -53,15 +61,20 @@ fn compare(script: &str, tables: &mut Tables, ends: &mut Ends) {
 #[test]
 fn reads_what_the_original_reads() {
     on_large_stack(|| {
-        let (mut tables, mut ends) = (Tables::new(), Ends::default());
-        for script in common::scripts() {
-            compare(&script, &mut tables, &mut ends);
+        for rule in [Rule::One, Rule::Two] {
+            let (mut tables, mut ends) = (Tables::new(), Ends::default());
+            for script in common::scripts() {
+                compare(rule, &script, &mut tables, &mut ends);
+            }
+            println!("{ends:?}");
+            // Each way has to be tried often enough to mean something.
+            assert!(ends.clean > 1000 && ends.with_errors > 1000, "{ends:?}");
+            assert!(ends.stopped > 1000 && ends.too_deep > 10, "{ends:?}");
+            match rule {
+                Rule::One => assert!(ends.at_point > 20, "{ends:?}"),
+                Rule::Two => assert_eq!(ends.at_point, 0),
+            }
         }
-        println!("{ends:?}");
-        // Each way has to be tried often enough to mean something.
-        assert!(ends.clean > 1000 && ends.with_errors > 1000, "{ends:?}");
-        assert!(ends.stopped > 1000 && ends.at_point > 20, "{ends:?}");
-        assert!(ends.too_deep > 10, "{ends:?}");
     });
 }
 

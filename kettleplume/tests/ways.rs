@@ -3,12 +3,15 @@
 mod common;
 
 use kettleplume::border::{self, Answer, Parser};
-use kettleplume::records::{outcome, ERROR_WORDS, NODE_WORDS, TOKEN_WORDS};
+use kettleplume::records::{outcome, rule, way, ERROR_WORDS, NODE_WORDS, TOKEN_WORDS};
 use kettleplume::state::InterpreterState;
-use kettleplume::{read, read_as, read_state, scan, Error, Options, Tables, Way};
+use kettleplume::{read, read_as, read_state, scan, Error, Options, Rule, Tables, Way};
 
-const STOPPING: Options = Options { way: Way::Stop };
-const GOING_ON: Options = Options { way: Way::GoOn };
+const STOPPING: Options = Options {
+    rule: Rule::One,
+    way: Way::Stop,
+};
+const GOING_ON: Options = Options::ORIGINAL;
 
 /// A script, its answer as in an outline on the new way and on the old one, and how many of the old
 /// way's errors are the lexer's.
@@ -66,10 +69,17 @@ fn what_is_left_without_parsing() {
         )
     };
     let (mut tokens, mut errors, mut nodes) = tables();
-    let answer = border::read(0, source, &mut tokens, &mut errors, &mut nodes);
+    let answer = border::read(
+        rule::ONE,
+        way::STOP,
+        source,
+        &mut tokens,
+        &mut errors,
+        &mut nodes,
+    );
     assert_eq!(numbers(answer), [11, 5, 1, 0, 0]);
     let (mut lexed_tokens, mut lexed_errors, _) = tables();
-    border::scan(source, &mut lexed_tokens, &mut lexed_errors);
+    border::scan(rule::ONE, source, &mut lexed_tokens, &mut lexed_errors);
     assert_eq!((tokens, errors), (lexed_tokens, lexed_errors));
     assert_eq!(
         (&tokens[TOKEN_WORDS * 5..], &errors[ERROR_WORDS..]),
@@ -78,7 +88,7 @@ fn what_is_left_without_parsing() {
     assert!(nodes.iter().all(|word| *word == 0));
 
     let (mut tokens, mut errors, mut nodes) = tables();
-    let mut parser = Parser::default();
+    let mut parser = Parser::new(STOPPING);
     assert_eq!(
         parser.begin(source, &mut tokens, &mut errors, &mut nodes),
         answer

@@ -2,10 +2,12 @@
 
 use std::ffi::{OsStr, OsString};
 
+use kettleplume::Rule;
+
 use super::letters::escaped;
 
 pub const USAGE: &str = "\
-usage: kettleplume read [--go-on] [--outline] FILE...
+usage: kettleplume read [--rule N] [--go-on] [--outline] FILE...
        kettleplume --help | --version";
 
 pub const VERSION: &str = concat!("kettleplume ", env!("CARGO_PKG_VERSION"), "\n");
@@ -13,7 +15,7 @@ pub const VERSION: &str = concat!("kettleplume ", env!("CARGO_PKG_VERSION"), "\n
 pub const HELP: &str = "\
 Reads scripts of the language Grotsky and says what is found in them.
 
-usage: kettleplume read [--go-on] [--outline] FILE...
+usage: kettleplume read [--rule N] [--go-on] [--outline] FILE...
        kettleplume --help | --version
 
 For each script its recorded errors are printed, in the order in which they were
@@ -32,6 +34,10 @@ is left out. Characters that a terminal shouldn't be given are shown by others.
 
 A FILE that is - is standard input. After -- every word is a FILE.
 
+  --rule N   reads scripts that are written for rule N, 1 or 2; without it, rule 1. By
+             rule 2 a name may have digits behind its first letter or underscore, a
+             loop for x in y ends where its body does, so that a break or continue
+             behind it is a mistake, and a number with a point may end the script
   --go-on    reads the statements all the same, as earlier versions of this command
              did; what it prints is what they printed
   --outline  prints instead what a reading keeps, in document 01's form: a line o
@@ -39,7 +45,8 @@ A FILE that is - is standard input. After -- every word is a FILE.
              n for each node. The fifth number of a token is the line where it
              begins. Of several files, each begins with a line f and its name. A
              script for which the program outline has no room, up to 65,535 bytes,
-             is printed in full. Statements are always read, as with --go-on.
+             is printed in full. Statements are always read, as with --go-on; the
+             rule is the one that --rule names.
   --help     prints this
   --version  prints the version
 
@@ -65,6 +72,7 @@ pub enum Task {
 
 #[derive(Debug, Default, PartialEq, Eq)]
 pub struct Asked {
+    pub rule: Rule,
     pub go_on: bool,
     pub outline: bool,
     pub files: Vec<OsString>,
@@ -83,12 +91,19 @@ pub fn task(mut words: impl Iterator<Item = OsString>) -> Result<Task, String> {
     }
 }
 
-fn read(words: impl Iterator<Item = OsString>) -> Result<Task, String> {
+fn read(mut words: impl Iterator<Item = OsString>) -> Result<Task, String> {
     let mut asked = Asked::default();
     let mut options = true;
-    for word in words {
+    while let Some(word) = words.next() {
         match word.to_str() {
             Some("--") if options => options = false,
+            Some("--rule") if options => {
+                let number = words.next().ok_or("the number behind --rule is missing")?;
+                asked.rule = rule(&number)?;
+            }
+            Some(text) if options && text.starts_with(RULE_IS) => {
+                asked.rule = rule(text[RULE_IS.len()..].as_ref())?;
+            }
             Some("--go-on") if options => asked.go_on = true,
             Some("--outline") if options => asked.outline = true,
             Some("--help") if options => return Ok(Task::Help),
@@ -106,6 +121,17 @@ fn read(words: impl Iterator<Item = OsString>) -> Result<Task, String> {
     match asked.files.is_empty() {
         true => Err("a file to read is missing".to_string()),
         false => Ok(Task::Read(asked)),
+    }
+}
+
+/// A rule's number in the same word.
+const RULE_IS: &str = "--rule=";
+
+fn rule(number: &OsStr) -> Result<Rule, String> {
+    match number.to_str() {
+        Some("1") => Ok(Rule::One),
+        Some("2") => Ok(Rule::Two),
+        _ => Err(format!("there is no rule {}, only 1 and 2", quoted(number))),
     }
 }
 

@@ -78,7 +78,7 @@ pub fn broken_escape(source: &[u8], quote: usize) -> Option<usize> {
 #[cfg(test)]
 mod tests {
     use super::*;
-    use kettleplume::{Options, Tables, Way};
+    use kettleplume::{Options, Tables};
 
     /// The place whose line a token's record has, by document 01: behind a new line, at the closing
     /// quote of a string.
@@ -108,7 +108,7 @@ mod tests {
     /// that aren't.
     fn holds_for(source: &[u8]) {
         let mut tables = Tables::new();
-        let records = tables.read_as(Options { way: Way::GoOn }, source);
+        let records = tables.read_as(Options::ORIGINAL, source);
         let script = Places::new(source);
         let uncounted = uncounted(source, records.errors);
         let stands = |at: usize, line: u32| {
@@ -151,7 +151,7 @@ mod tests {
 
     fn remarks(source: &str) -> Vec<Vec<String>> {
         let mut tables = Tables::new();
-        let records = tables.read_as(Options { way: Way::GoOn }, source.as_bytes());
+        let records = tables.read_as(Options::ORIGINAL, source.as_bytes());
         let script = Places::new(source.as_bytes());
         let errors = records.errors.iter();
         errors

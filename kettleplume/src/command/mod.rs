@@ -95,7 +95,8 @@ fn options(asked: &Asked) -> Options {
         true => Way::GoOn,
         false => Way::Stop,
     };
-    Options { way }
+    let rule = asked.rule;
+    Options { rule, way }
 }
 
 fn text(asked: &Asked, name: &str, source: &[u8], records: &Records) -> String {

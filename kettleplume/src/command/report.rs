@@ -151,7 +151,7 @@ fn counted(count: usize, what: &str) -> String {
 #[cfg(test)]
 mod tests {
     use super::*;
-    use kettleplume::{Options, Tables, Way};
+    use kettleplume::{Options, Tables};
 
     /// Scripts of parts that are hard to show, each other than the last.
     fn hard_scripts() -> impl Iterator<Item = Vec<u8>> {
@@ -193,8 +193,9 @@ mod tests {
     fn every_error_is_told_and_nothing_unsafe_is_printed() {
         let mut tables = Tables::new();
         let mut unparsed = 0;
-        for (source, way) in hard_scripts().flat_map(|s| [(s.clone(), Way::Stop), (s, Way::GoOn)]) {
-            let records = tables.read_as(Options { way }, &source);
+        let ways = [Options::default(), Options::ORIGINAL];
+        for (source, options) in hard_scripts().flat_map(|s| ways.map(|way| (s.clone(), way))) {
+            let records = tables.read_as(options, &source);
             let report = report("s", &source, &records);
             let lines = report.lines().filter(|line| line.starts_with("s:"));
             assert_eq!(lines.count(), records.errors.len() + 1);
@@ -213,7 +214,7 @@ mod tests {
         let (mut lexers, mut parsers, mut ends) = (0, 0, 0);
         for source in hard_scripts() {
             let script = Places::new(&source);
-            let records = tables.read_as(Options { way: Way::GoOn }, &source);
+            let records = tables.read_as(Options::ORIGINAL, &source);
             for [number, _, pos] in records.errors {
                 let at = letters::start(&source, *pos as usize);
                 let excerpt = excerpt::marked(&script, at);

@@ -5,7 +5,7 @@ use std::path::Path;
 
 use expected::dice::Dice;
 use expected::maker::Maker;
-use expected::scripts::{around, many, LISTED, MISLEXED, MORE_WAYS, WAYS};
+use expected::scripts::{around, many, ruled, LISTED, MISLEXED, MORE_WAYS, WAYS};
 use expected::spellings::{BETWEEN, NUMBERS, STRINGS};
 
 /// How many scripts are made at random.
@@ -21,6 +21,7 @@ pub fn scripts() -> Vec<String> {
     }
     scripts.extend([255, 256].map(|count| format!("f({})", many(count))));
     scripts.extend([256, 257].map(|count| format!("fn f({}) a", many(count))));
+    scripts.extend(ruled());
     scripts.extend(examples());
     scripts.extend(made());
     scripts
