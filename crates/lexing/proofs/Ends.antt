@@ -1,10 +1,10 @@
 -- How a lexing ends; under rule two it is never with 2. Assumes nothing.
-use mathlib.Core.Path.{_≡_, refl, sym, _∙_}
+use mathlib.Core.Path.{_≡_, refl, sym, subst, _∙_}
 use mathlib.Core.Bool.{Bool, true, false, not, _&&_}
 use mathlib.Core.List.{List, [], _∷_}
 use Prim.Native.Nat.{ℕ, zero, suc}
 use native.Mathlib.Omega.{arith}
-use lib.Dec.{ltb, eqb}
+use lib.Dec.{T, ltb, eqb}
 use lib.ListN.{length}
 use Rattle.rules.specs.Rules.{two, known, isTwo}
 use Rattle.text.specs.Text.{isText}
@@ -124,18 +124,23 @@ module _ (rule : ℕ) where
       at true h false false = not-text h
       at true h false true = lexes _ h (lexed-ends s a b)
 
--- ---- rule two never ends with 2
-lexed-two : (rule o : ℕ) → isTwo rule ≡ true → Lexed rule o → o ≡ 2 → ⊥
-lexed-two rule _ i ended e = omega (arith, e)
-lexed-two rule _ i (cut f) e = let z : _≡_ {A = Bool} true false = sym i ∙ f in absurd (let y : _≡_ {A = ℕ} 0 1 = cc in omega arith)
-lexed-two rule _ i token-room e = omega (arith, e)
-lexed-two rule _ i error-room e = omega (arith, e)
+-- ---- by the outcome: whatever holds of each that a lexing can end with holds of the one it ends with
+pub ends-cases : (rule : ℕ) (P : ℕ → Type 0) → (known rule ≡ false → P 13)
+    → (known rule ≡ true → P 4 × P 3 × P 0 × P 5 × P 6) → (known rule ≡ true → isTwo rule ≡ false → P 2) → (o : ℕ) → Ends rule o → P o
+ends-cases rule P w p c _ (wrong-rule h) = w h
+ends-cases rule P w p c _ (too-long h) = p h .0
+ends-cases rule P w p c _ (not-text h) = p h .1
+ends-cases rule P w p c _ (lexes _ h ended) = p h .2
+ends-cases rule P w p c _ (lexes _ h (cut i)) = c h i
+ends-cases rule P w p c _ (lexes _ h token-room) = p h .3
+ends-cases rule P w p c _ (lexes _ h error-room) = p h .4
 
+-- ---- rule two never ends with 2
 pub ends-two : (rule o : ℕ) → isTwo rule ≡ true → Ends rule o → o ≡ 2 → ⊥
-ends-two rule _ i (wrong-rule h) e = omega (arith, e)
-ends-two rule _ i (too-long h) e = omega (arith, e)
-ends-two rule _ i (not-text h) e = omega (arith, e)
-ends-two rule _ i (lexes o h l) e = lexed-two rule o i l e
+ends-two rule o i x =
+    ends-cases rule (λ (o : ℕ). o ≡ 2 → ⊥) (λ h e. omega (arith, e))
+    (λ h. (λ e. omega (arith, e), λ e. omega (arith, e), λ e. omega (arith, e), λ e. omega (arith, e), λ e. omega (arith, e)))
+    (λ h f e. subst T (sym i ∙ f) tt) o x
 
 -- OUTCOME 2 NEVER OCCURS UNDER RULE TWO, in lexing
 pub two-never : (s : List ℕ) (a b : ℕ) → lexedOf two s a b .outcome ≡ 2 → ⊥

@@ -10,7 +10,8 @@ use Rattle.rules.specs.Rules.{two, known, isTwo}
 use Rattle.records.specs.Table.{room, tokenWidth, errorWidth}
 use Rattle.lexer.specs.Lex.{Result, refusal, pickResult, lexedBy, lexedOf}
 use Rattle.lexing.specs.Ends as lexings
-use Rattle.lexing.proofs.Ends.{lexing-ends, ends-two}
+use Rattle.lexing.proofs.Ends.{lexing-ends, ends-cases, ends-two}
+use Rattle.progress.proofs.Moves.{never}
 use Rattle.parsing.specs.Ahead.{isOutcome}
 use Rattle.parsing.proofs.Ahead.{parsed-outcome}
 use Rattle.entry.specs.Ways.{stop, endedWrong, withOutcome, onWay}
@@ -18,26 +19,18 @@ use Rattle.entry.specs.Entry.{over, nodesAfter, enteredAfter}
 use Rattle.entry.specs.Reading.{Reading, readBy, readAfter, reading}
 use Rattle.whole.specs.Ends.{Ends, in-lexing, before-parsing, in-parsing, isFinal, unruled}
 
-true-false : {A : Type 0} → true ≡ false → A
-true-false e = let z : _≡_ {A = ℕ} 0 1 = cc in absurd (omega arith)
-
 -- ---- what is lexed
 -- where lexing does not end with 13 the rule is known
 ends-known : (rule o : ℕ) → lexings.Ends rule o → (o ≡ 13 → ⊥) → known rule ≡ true
-ends-known rule _ (lexings.wrong-rule h) n = absurd (n refl)
-ends-known rule _ (lexings.too-long h) n = h
-ends-known rule _ (lexings.not-text h) n = h
-ends-known rule _ (lexings.lexes o h l) n = h
+ends-known rule =
+    ends-cases rule (λ (o : ℕ). (o ≡ 13 → ⊥) → known rule ≡ true) (λ h n. absurd (n refl)) (λ h. (λ n. h, λ n. h, λ n. h, λ n. h, λ n. h)) λ h i n. h
 
 -- where it does, the rule is not
 ends-unknown : (rule o : ℕ) → lexings.Ends rule o → o ≡ 13 → known rule ≡ false
-ends-unknown rule _ (lexings.wrong-rule h) e = h
-ends-unknown rule _ (lexings.too-long h) e = absurd (omega (arith, e))
-ends-unknown rule _ (lexings.not-text h) e = absurd (omega (arith, e))
-ends-unknown rule _ (lexings.lexes _ h lexings.ended) e = absurd (omega (arith, e))
-ends-unknown rule _ (lexings.lexes _ h (lexings.cut i)) e = absurd (omega (arith, e))
-ends-unknown rule _ (lexings.lexes _ h lexings.token-room) e = absurd (omega (arith, e))
-ends-unknown rule _ (lexings.lexes _ h lexings.error-room) e = absurd (omega (arith, e))
+ends-unknown rule =
+    ends-cases rule (λ (o : ℕ). o ≡ 13 → known rule ≡ false) (λ h e. h)
+    (λ h. (λ e. absurd (omega (arith, e)), λ e. absurd (omega (arith, e)), λ e. absurd (omega (arith, e)), λ e. absurd (omega (arith, e)), λ e. absurd (omega (arith, e))))
+    λ h i e. absurd (omega (arith, e))
 
 -- ---- the reading
 module _ (rule way : ℕ) (s t e n : List ℕ) where
@@ -59,7 +52,7 @@ module _ (rule way : ℕ) (s t e n : List ℕ) where
       let E = over (d .errors) e in
       let N = nodesAfter (d .outcome) n in
       in-parsing _ (ended-known (eqb-true (d .outcome) 0 h)) (parsed-outcome T rule (d .errorCount) E N)
-  goes false h = in-lexing _ x λ z. true-false (sym (ap (λ (k : ℕ). eqb k 0) z) ∙ h)
+  goes false h = in-lexing _ x λ z. never (sym h ∙ ap (λ (k : ℕ). eqb k 0) z)
 
   -- HOW A READING ENDS
   pub reading-ends : Ends rule way (reading rule way s t e n .outcome)
@@ -79,13 +72,7 @@ module _ (rule way : ℕ) (s t e n : List ℕ) where
 -- ---- the numbers
 -- of lexing
 lexed-number : (rule o : ℕ) → lexings.Ends rule o → isFinal o ≡ true
-lexed-number rule _ (lexings.wrong-rule h) = refl
-lexed-number rule _ (lexings.too-long h) = refl
-lexed-number rule _ (lexings.not-text h) = refl
-lexed-number rule _ (lexings.lexes _ h lexings.ended) = refl
-lexed-number rule _ (lexings.lexes _ h (lexings.cut i)) = refl
-lexed-number rule _ (lexings.lexes _ h lexings.token-room) = refl
-lexed-number rule _ (lexings.lexes _ h lexings.error-room) = refl
+lexed-number rule = ends-cases rule (λ (o : ℕ). isFinal o ≡ true) (λ h. refl) (λ h. (refl, refl, refl, refl, refl)) λ h i. refl
 
 -- of parsing, which are 0, 1, 6, 7 and 8: whatever holds of these
 parsed-numbers : (P : ℕ → Type 0) → P 0 → P 1 → P 6 → P 7 → P 8 → (o : ℕ) → isOutcome o ≡ true → P o
@@ -100,7 +87,7 @@ parsed-numbers P p q r s t o = at (eqb o 0) refl (eqb o 1) refl (eqb o 6) refl (
     at false f false g true h d i e j k = is 6 r h
     at false f false g false h true i e j k = is 7 s i
     at false f false g false h false i true j k = is 8 t j
-    at false f false g false h false i false j k = true-false (sym k)
+    at false f false g false h false i false j k = never k
 
 ends-number : (rule way o : ℕ) → Ends rule way o → isFinal o ≡ true
 ends-number rule way _ (in-lexing o x z) = lexed-number rule o x
@@ -113,24 +100,20 @@ reading-outcome rule way s t e n = ends-number rule way _ (reading-ends rule way
 
 -- ---- 11 is the new way's
 lexed-not-11 : (rule o : ℕ) → lexings.Ends rule o → o ≡ 11 → ⊥
-lexed-not-11 rule _ (lexings.wrong-rule h) e = omega (arith, e)
-lexed-not-11 rule _ (lexings.too-long h) e = omega (arith, e)
-lexed-not-11 rule _ (lexings.not-text h) e = omega (arith, e)
-lexed-not-11 rule _ (lexings.lexes _ h lexings.ended) e = omega (arith, e)
-lexed-not-11 rule _ (lexings.lexes _ h (lexings.cut i)) e = omega (arith, e)
-lexed-not-11 rule _ (lexings.lexes _ h lexings.token-room) e = omega (arith, e)
-lexed-not-11 rule _ (lexings.lexes _ h lexings.error-room) e = omega (arith, e)
+lexed-not-11 rule =
+    ends-cases rule (λ (o : ℕ). o ≡ 11 → ⊥) (λ h e. omega (arith, e))
+    (λ h. (λ e. omega (arith, e), λ e. omega (arith, e), λ e. omega (arith, e), λ e. omega (arith, e), λ e. omega (arith, e))) λ h i e. omega (arith, e)
 
 pub ends-new : (rule way o : ℕ) → Ends rule way o → o ≡ 11 → way ≡ stop
 ends-new rule way _ (in-lexing o x z) e = absurd (lexed-not-11 rule o x e)
 ends-new rule way _ (before-parsing k i) e = i
-ends-new rule way _ (in-parsing o k h) e = true-false (sym (subst (λ (j : ℕ). isOutcome j ≡ true) e h))
+ends-new rule way _ (in-parsing o k h) e = never (subst (λ (j : ℕ). isOutcome j ≡ true) e h)
 
 -- ---- OUTCOME 2 NEVER OCCURS UNDER RULE TWO
 reading-two : (rule way o : ℕ) → isTwo rule ≡ true → Ends rule way o → o ≡ 2 → ⊥
 reading-two rule way _ i (in-lexing o x z) e = ends-two rule o i x e
 reading-two rule way _ i (before-parsing k j) e = omega (arith, e)
-reading-two rule way _ i (in-parsing o k h) e = true-false (sym (subst (λ (j : ℕ). isOutcome j ≡ true) e h))
+reading-two rule way _ i (in-parsing o k h) e = never (subst (λ (j : ℕ). isOutcome j ≡ true) e h)
 
 pub two-never : (way : ℕ) (s t e n : List ℕ) → reading two way s t e n .outcome ≡ 2 → ⊥
 two-never way s t e n = reading-two two way _ refl (reading-ends two way s t e n)
@@ -140,7 +123,7 @@ two-never way s t e n = reading-two two way _ refl (reading-ends two way s t e n
 ends-unruled : (rule way o : ℕ) → Ends rule way o → o ≡ 13 → known rule ≡ false
 ends-unruled rule way _ (in-lexing o x z) e = ends-unknown rule o x e
 ends-unruled rule way _ (before-parsing k i) e = absurd (omega (arith, e))
-ends-unruled rule way _ (in-parsing o k h) e = true-false (sym (subst (λ (j : ℕ). isOutcome j ≡ true) e h))
+ends-unruled rule way _ (in-parsing o k h) e = never (subst (λ (j : ℕ). isOutcome j ≡ true) e h)
 
 pub unruled-only : (rule way : ℕ) (s t e n : List ℕ) → reading rule way s t e n .outcome ≡ 13 → known rule ≡ false
 unruled-only rule way s t e n = ends-unruled rule way _ (reading-ends rule way s t e n)

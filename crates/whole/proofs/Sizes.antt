@@ -25,6 +25,7 @@ use Rattle.lexing.proofs.Kept.{lexed-keeps}
 use Rattle.lexing.proofs.Answer.{tests, tokens-within, errors-within}
 use Rattle.parser.specs.Tokens.{kindAt, startAt, lineAt}
 use Rattle.parser.specs.Whole.{Parsed, parsed}
+use Rattle.progress.proofs.Moves.{never}
 use Rattle.parsing.specs.Ahead.{Agree, isOutcome}
 use Rattle.parsing.proofs.Sizes.{SameParsed, parsed-sizes}
 use Rattle.parsing.proofs.Frame.{parsed-errors-kept, parsed-nodes-long}
@@ -34,9 +35,6 @@ use Rattle.entry.specs.Entry.{over, unread, nodesAfter, enteredAfter}
 use Rattle.entry.specs.Reading.{readBy, readAfter, reading}
 use Rattle.entry.proofs.Ways.{on-ended, on-unread, on-read}
 use Rattle.whole.specs.Sizes.{SameReading, Rest}
-
-true-false : {A : Type 0} → true ≡ false → A
-true-false e = let z : _≡_ {A = ℕ} 0 1 = cc in absurd (omega arith)
 
 -- ---- a lexing of text that is not too long, by a rule that is known, does not end with 3, 4 or 13
 lexed-read : (rule o : ℕ) → Lexed rule o → unread o ≡ false
@@ -60,14 +58,14 @@ well-lexed n r u e (whole ws m d o rows le eof is count) =
       tokens-long = ap length is ∙ length-append ws (tokenWords d) ∙ omega arith;
       errors-long = e;
       eof = λ z. (m, count, ap (λ (l : List ℕ). getD l (tokenWidth * m + 0) 0) is ∙ ap (λ (k : ℕ). getD (ws ++ tokenWords d) (k + 0) 0) (sym a) ∙ getD-append-add ws (tokenWords d) 0 0 ∙ eof .kind-is);
-      nothing = λ z. true-false (sym z ∙ u);
+      nothing = λ z. never (sym u ∙ z);
     }
 well-lexed n r u e (short ne rows le) =
     record {
       tokens-long = rows-length tokenWords (Good n) tokenWidth (λ d. refl) (r .tokens) (r .tokenCount) rows;
       errors-long = e;
       eof = λ z. absurd (ne z);
-      nothing = λ z. true-false (sym z ∙ u);
+      nothing = λ z. never (sym u ∙ z);
     }
 
 well-refusal : (o : ℕ) → (o ≡ 0 → ⊥) → Well (refusal o)
@@ -209,13 +207,13 @@ outcome-read : {A : Type 0} (o : ℕ) → isOutcome o ≡ true → unread o ≡ 
 outcome-read o h = at (eqb o 3) refl (eqb o 4) refl (eqb o 13) refl
   where
     not-so : {A : Type 0} (k : ℕ) → eqb o k ≡ true → isOutcome k ≡ false → A
-    not-so k p f = true-false (sym (subst (λ (j : ℕ). isOutcome j ≡ true) (eqb-true o k p) h) ∙ f)
+    not-so k p f = never (sym f ∙ subst (λ (j : ℕ). isOutcome j ≡ true) (eqb-true o k p) h)
 
     at : {A : Type 0} (x : Bool) → eqb o 3 ≡ x → (y : Bool) → eqb o 4 ≡ y → (z : Bool) → eqb o 13 ≡ z → x || (y || z) ≡ true → A
     at true p y q z r u = not-so 3 p refl
     at false p true q z r u = not-so 4 q refl
     at false p false q true r u = not-so 13 r refl
-    at false p false q false r u = true-false (sym u)
+    at false p false q false r u = never u
 
 module _ (rule : ℕ) (d : Result) (w : Well d) (t e n : List ℕ) (tf : length (d .tokens) ≤ length t) (ef : length (d .errors) ≤ length e) where
   abbrev T : List ℕ
