@@ -71,8 +71,8 @@ class Walk:
     def promise(self, fact, callee):
         """What a call ensures, right to left; a record that is written out is put in for the result instead."""
         promise = f"@{fact} .ensures" + "".join(f" ({self.instance(v)})" for v in callee.quantified)
-        if fact in self.setting.answers.via:
-            promise = f"(rw (@{self.setting.answers.via[fact]} .ensures) at ({promise}))"
+        for other in self.setting.answers.via.get(fact, "").split():
+            promise = f"(rw (@{other} .ensures) at ({promise}))"
         return promise if callee.gives_record else "← " + promise
 
     def instance(self, variable):

@@ -1,11 +1,11 @@
 // The step from lexing to parsing, and what a whole reading is: its definition and its answer.
 ghost use mathlib.Core.Path.{_≡_};
 ghost use Rattle.entry.specs.Ways.{outcomeOn};
-ghost use Rattle.entry.specs.Entry.{entered, Enters};
+ghost use Rattle.entry.specs.Entry.{entered, Indexes, Enters};
 use lexer::Scanned;
 use records::Outcome;
 
-// What a reading answers: the outcome, how many tokens, errors and nodes are kept, and the first statement, 0 where none is.
+// What a reading answers: the outcome, how many tokens, errors and nodes are kept, the first statement, 0 where none is, and how often `check` was called.
 #[repr(C)]
 pub struct Answer {
     pub outcome: u32,
@@ -13,6 +13,7 @@ pub struct Answer {
     pub errors: u32,
     pub nodes: u32,
     pub first: u32,
+    pub looks: u32,
 }
 
 // The two ways of a reading, named here once: the numbers of specs/Ways.antt.
@@ -38,8 +39,21 @@ fn outcome_on(way: u32, outcome: u32, errors: u32) -> u32
     outcome
 }
 
-// The step from lexing to parsing: `read` begins with it, and the reading of a statement at a time. With outcome 0 what was lexed is to be parsed. Any other
-// ends the reading: after 3, 4 and 13 the node table is as it was, else it is all zeros.
+// What the index asks of that outcome: where n tokens are to be parsed it is written, or has too little room for them.
+fn index_on(tokens: &[u32], index: &mut [u32], outcome: u32, n: u32) -> u32
+    ensures { λ r. ⌜ Indexes (now (tokens .entry)) outcome n (now (index .entry)) r (now (index .exit)) ⌝ }
+{
+    if outcome != Outcome::ENDED {
+        return outcome;
+    }
+    if lines::index_lines(tokens, index, n) {
+        return Outcome::ENDED;
+    }
+    Outcome::NO_BUFFER_ROOM
+}
+
+// The step from lexing to parsing: `read` begins with it, and the reading of a statement at a time. With outcome 0 what was lexed is to be parsed, and the index
+// is written. Any other ends the reading, and the index is as it was: after 3, 4 and 13 so is the node table, else it is all zeros.
 pub fn enter(
     rule: u32,
     way: u32,
@@ -47,12 +61,14 @@ pub fn enter(
     tokens: &mut [u32],
     errors: &mut [u32],
     nodes: &mut [u32],
+    index: &mut [u32],
 ) -> Scanned
-    ensures { λ r. ⌜ Enters (entered rule way (now (source .entry)) (now (tokens .entry)) (now (errors .entry)) (now (nodes .entry)))
-        r (now (tokens .exit)) (now (errors .exit)) (now (nodes .exit)) ⌝ }
+    ensures { λ r. ⌜ Enters (entered rule way (now (source .entry)) (now (tokens .entry)) (now (errors .entry)) (now (nodes .entry)) (now (index .entry)))
+        r (now (tokens .exit)) (now (errors .exit)) (now (nodes .exit)) (now (index .exit)) ⌝ }
 {
     let d = lexer::scan(rule, source, tokens, errors);
-    let outcome = outcome_on(way, d.outcome, d.errors);
+    let lexed = outcome_on(way, d.outcome, d.errors);
+    let outcome = index_on(tokens, index, lexed, d.tokens);
     if (outcome != Outcome::ENDED)
         & (outcome != Outcome::NOT_TEXT)
         & (outcome != Outcome::TOO_LONG)

@@ -14,12 +14,12 @@ use Rattle.form.specs.Text.{Holds, headOf, linesOf, tokenShown, errorSho
 use Rattle.form.proofs.Laws.{holds-within}
 
 -- what a promise allows is the reading itself
-read-is : (d : Reading) (r : Answer) (T E N : List ℕ) → Answers d r T E N → readOf r T E N ≡ d
-read-is d r T E N h = λ i.
-    record { outcome = h .outcome-is i; tokenCount = h .tokens-are i; errorCount = h .errors-are i; nodeCount = h .nodes-are i; first = h .first-is i; tokens = h .token-table i; errors = h .error-table i; nodes = h .node-table i }
+read-is : (d : Reading) (r : Answer) (T E N X : List ℕ) → Answers d r T E N X → readOf r T E N X ≡ d
+read-is d r T E N X h = λ i.
+    record { outcome = h .outcome-is i; tokenCount = h .tokens-are i; errorCount = h .errors-are i; nodeCount = h .nodes-are i; first = h .first-is i; looks = h .looks-are i; tokens = h .token-table i; errors = h .error-table i; nodes = h .node-table i; index = h .index-table i }
 
 -- the parts of a reading's text, as they are written one behind the other
-pub text-is : (r : Answer) (T E N B u : List ℕ) (at : ℕ)
+pub text-is : (r : Answer) (T E N X B u : List ℕ) (at : ℕ)
     → Holds
     ([] ++
     headOf (r .outcome ∷ r .tokens ∷ r .errors ∷ r .nodes ∷ r .first ∷ []) ++
@@ -27,9 +27,9 @@ pub text-is : (r : Answer) (T E N B u : List ℕ) (at : ℕ)
     linesOf 101 E errorWidth errorShown (r .errors) ++
     linesOf 110 N nodeWidth nodeShown (r .nodes))
     B u at
-    → Holds (textOf (readOf r T E N)) B u at
+    → Holds (textOf (readOf r T E N X)) B u at
 unfolding textOf
-text-is r T E N B u at h = h
+text-is r T E N X B u at h = h
 
 -- a script that is too long
 pub outline-long : (s B u : List ℕ) (at : ℕ) → 4096 < length s → Holds ([] ++ headOf (4 ∷ 0 ∷ 0 ∷ 0 ∷ 0 ∷ [])) B u at → Holds (outlineOf s) B u at
@@ -39,13 +39,13 @@ outline-long s B u at l h =
     (sym (lt-ltb 4096 (length s) l)) h
 
 -- any other
-pub outline-read : (s B u : List ℕ) (at : ℕ) (r : Answer) (T E N : List ℕ) → length s ≤ 4096 → Answers (readWithin s) r T E N
-    → Holds (textOf (readOf r T E N)) B u at → Holds (outlineOf s) B u at
+pub outline-read : (s B u : List ℕ) (at : ℕ) (r : Answer) (T E N X : List ℕ) → length s ≤ 4096 → Answers (readWithin s) r T E N X
+    → Holds (textOf (readOf r T E N X)) B u at → Holds (outlineOf s) B u at
 unfolding outlineOf
-outline-read s B u at r T E N l a h =
+outline-read s B u at r T E N X l a h =
     let d = readWithin s in
     subst (λ (b : Bool). Holds (cond b (headOf (4 ∷ 0 ∷ 0 ∷ 0 ∷ 0 ∷ [])) (textOf d)) B u at) (sym (le-ltb 4096 (length s) l))
-    (subst (λ (x : Reading). Holds (textOf x) B u at) (read-is d r T E N a) h)
+    (subst (λ (x : Reading). Holds (textOf x) B u at) (read-is d r T E N X a) h)
 
 -- what is held counts bytes of the buffer
 pub holds-counts : (t B u : List ℕ) (at : ℕ) → Holds t B u at → Counts at u

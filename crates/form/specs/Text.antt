@@ -5,7 +5,7 @@ use mathlib.Core.Bool.{cond}
 use mathlib.Core.List.{List, [], _∷_, _++_}
 use lib.Dec.{ltb}
 use lib.ListN.{length, getD, take, drop, replicate}
-use Rattle.records.specs.Table.{tokenWidth, errorWidth, nodeWidth}
+use Rattle.records.specs.Table.{tokenWidth, errorWidth, nodeWidth, indexWidth}
 use Rattle.entry.specs.declared.Answer.{Answer}
 use Rattle.rules.specs.Rules.{one}
 use Rattle.entry.specs.Ways.{goOn}
@@ -54,7 +54,7 @@ errorShown = 0 ∷ 1 ∷ 2 ∷ []
 abbrev pub nodeShown : List ℕ
 nodeShown = 0 ∷ 1 ∷ 2 ∷ 3 ∷ 4 ∷ 5 ∷ 6 ∷ 7 ∷ 8 ∷ []
 
--- the whole text of a reading
+-- the whole text of a reading; its looks and its index are not shown
 unfoldable pub textOf : Reading → List ℕ
 textOf r =
     headOf (r .outcome ∷ r .tokenCount ∷ r .errorCount ∷ r .nodeCount ∷ r .first ∷ []) ++
@@ -62,13 +62,13 @@ textOf r =
     linesOf 101 (r .errors) errorWidth errorShown (r .errorCount) ++
     linesOf 110 (r .nodes) nodeWidth nodeShown (r .nodeCount)
 
--- an answer and the tables that it left, as a reading
-abbrev pub readOf : Answer → List ℕ → List ℕ → List ℕ → Reading
-readOf r T E N = record { outcome = r .outcome; tokenCount = r .tokens; errorCount = r .errors; nodeCount = r .nodes; first = r .first; tokens = T; errors = E; nodes = N }
+-- an answer, and the tables and the index that it left, as a reading
+abbrev pub readOf : Answer → List ℕ → List ℕ → List ℕ → List ℕ → Reading
+readOf r T E N X = record { outcome = r .outcome; tokenCount = r .tokens; errorCount = r .errors; nodeCount = r .nodes; first = r .first; looks = r .looks; tokens = T; errors = E; nodes = N; index = X }
 
--- the reading of a script, by rule one and on the old way, into empty tables with room for 2,048 tokens, 256 errors and 1,600 nodes
+-- the reading of a script, by rule one and on the old way, into empty tables with room for 2,048 tokens, 256 errors and 1,600 nodes, with an index for as many tokens
 abbrev pub readWithin : List ℕ → Reading
-readWithin s = reading one goOn s (replicate (tokenWidth * 2048) 0) (replicate (errorWidth * 256) 0) (replicate (nodeWidth * 1600) 0)
+readWithin s = reading one goOn s (replicate (tokenWidth * 2048) 0) (replicate (errorWidth * 256) 0) (replicate (nodeWidth * 1600) 0) (replicate (indexWidth * 2048) 0)
 
 -- what `outline` prints of a script: it has room for 4,096 bytes
 unfoldable pub outlineOf : List ℕ → List ℕ

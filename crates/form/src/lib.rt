@@ -16,12 +16,14 @@ const MOST_BYTES: usize = 4096;
 // A buffer of so many bytes holds any outline whole: `outline-fits` in `outlining`.
 pub const OUTLINE_BYTES: usize = 287353;
 
-// Words for 2,048 tokens, 256 errors and 1,600 nodes.
+// Words for 2,048 tokens, 256 errors and 1,600 nodes, and for an index of the tokens.
 const TOKEN_WORDS: usize = records::TOKEN_WIDTH * 2048;
 
 const ERROR_WORDS: usize = records::ERROR_WIDTH * 256;
 
 const NODE_WORDS: usize = records::NODE_WIDTH * 1600;
+
+const INDEX_WORDS: usize = records::INDEX_WIDTH * 2048;
 
 // One byte more.
 fn push(out: &mut [u8], at: usize, byte: u8) -> usize
@@ -124,7 +126,7 @@ fn head(out: &mut [u8], at: usize, r: Answer) -> usize
 
 // An answer and the tables that it left.
 fn reading(out: &mut [u8], r: Answer, tokens: &[u32], errors: &[u32], nodes: &[u32]) -> usize
-    ensures { λ e. ⌜ Holds (textOf (readOf r (now (tokens .entry)) (now (errors .entry)) (now (nodes .entry)))) (now (out .entry)) (now (out .exit)) e ⌝ }
+    ensures { λ e. ⌜ ((X : List ℕ) → Holds (textOf (readOf r (now (tokens .entry)) (now (errors .entry)) (now (nodes .entry)) X)) (now (out .entry)) (now (out .exit)) e) ⌝ }
 {
     let a = head(out, 0, r);
     let token = [0, 1, 2, 3, 7];
@@ -143,6 +145,7 @@ pub fn outline(source: &[u8], out: &mut [u8]) -> usize
     let mut tokens = [0u32; TOKEN_WORDS];
     let mut errors = [0u32; ERROR_WORDS];
     let mut nodes = [0u32; NODE_WORDS];
+    let mut index = [0u32; INDEX_WORDS];
     if MOST_BYTES < source.len() {
         let r = Answer {
             outcome: 4,
@@ -150,6 +153,7 @@ pub fn outline(source: &[u8], out: &mut [u8]) -> usize
             errors: 0,
             nodes: 0,
             first: 0,
+            looks: 0,
         };
         return head(out, 0, r);
     }
@@ -160,6 +164,7 @@ pub fn outline(source: &[u8], out: &mut [u8]) -> usize
         &mut tokens,
         &mut errors,
         &mut nodes,
+        &mut index,
     );
     reading(out, r, &tokens, &errors, &nodes)
 }

@@ -1,6 +1,7 @@
 // The readers of parser.rs, `declaration` to `super_expr`, as far as they call each other: one cycle of calls. Each answers with the state and what it found; a stop is passed on. `levels` is how many levels may still open.
 ghost use mathlib.Core.Path.{_≡_};
 ghost use Prim.Native.Nat.{_-_};
+ghost use Rattle.parser.specs.Tokens.{indexed};
 ghost use Rattle.parser.specs.Tables.{reply};
 ghost use Rattle.parser.specs.Programs.{Declaration, Assignment};
 ghost use Rattle.parser.specs.Grammar as specs;
@@ -19,18 +20,25 @@ use records::Outcome;
 use token::Token;
 
 // Declarations up to the closing brace, which is passed.
-fn block(tokens: &[u32], errors: &mut [u32], nodes: &mut [u32], p: State, levels: u32) -> Out
-    ensures { λ r. ⌜ reply (r .p) (r .got) (now (errors .exit)) (now (nodes .exit)) ≡ runAt (now (tokens .entry)) levels (specs.block (now (tokens .entry))) p (now (errors .entry)) (now (nodes .entry)) ⌝ }
+fn block(
+    tokens: &[u32],
+    errors: &mut [u32],
+    nodes: &mut [u32],
+    index: &[u32],
+    p: State,
+    levels: u32,
+) -> Out
+    ensures { λ r. ⌜ reply (r .p) (r .got) (now (errors .exit)) (now (nodes .exit)) ≡ runAt (indexed (now (tokens .entry)) (now (index .entry))) levels (specs.block (indexed (now (tokens .entry)) (now (index .entry)))) p (now (errors .entry)) (now (nodes .entry)) ⌝ }
 {
     let mut first = 0;
     let mut last = 0;
     let mut s = p;
     loop {
         let at = s.current;
-        if let Seen::At(i) = parser::matches(tokens, at, Token::RIGHT_CURLY_BRACE) {
-            return parser::gives(s.at_token(i), first);
+        if let Seen::At(i) = parser::matches(tokens, index, at, Token::RIGHT_CURLY_BRACE) {
+            return parser::gives(s.at_token(i, 1), first);
         }
-        let g = declaration(tokens, errors, nodes, s, levels);
+        let g = declaration(tokens, errors, nodes, index, s.looked(1), levels);
         let k = g.got;
         let Got::Node(n) = k else {
             return g;
@@ -47,57 +55,75 @@ fn func(
     tokens: &[u32],
     errors: &mut [u32],
     nodes: &mut [u32],
+    index: &[u32],
     p: State,
     levels: u32,
     kind: u32,
     name: u32,
     message: u32,
 ) -> Out
-    ensures { λ r. ⌜ reply (r .p) (r .got) (now (errors .exit)) (now (nodes .exit)) ≡ runAt (now (tokens .entry)) levels (pieces.func (now (tokens .entry)) kind name message) p (now (errors .entry)) (now (nodes .entry)) ⌝ }
+    ensures { λ r. ⌜ reply (r .p) (r .got) (now (errors .exit)) (now (nodes .exit)) ≡ runAt (indexed (now (tokens .entry)) (now (index .entry))) levels (pieces.func (indexed (now (tokens .entry)) (now (index .entry))) kind name message) p (now (errors .entry)) (now (nodes .entry)) ⌝ }
 {
-    let g = pieces::parameters(tokens, errors, nodes, p, message);
+    let g = pieces::parameters(tokens, errors, nodes, index, p, message);
     let k = g.got;
     let Got::Node(params) = k else {
         return g;
     };
     let q = g.p;
-    let h = parser::consume(tokens, errors, q, Token::RIGHT_PAREN, 12);
+    let h = parser::consume(tokens, errors, index, q, Token::RIGHT_PAREN, 12);
     let k = h.got;
     let Got::Node(_) = k else {
         return h;
     };
     let s = h.p;
     let at = s.current;
-    match parser::matches(tokens, at, Token::LEFT_CURLY_BRACE) {
+    match parser::matches(tokens, index, at, Token::LEFT_CURLY_BRACE) {
         Seen::At(i) => {
-            let b = block(tokens, errors, nodes, s.at_token(i), levels);
+            let b = block(tokens, errors, nodes, index, s.at_token(i, 1), levels);
             pieces::fn_node(nodes, b, kind, name, params.node)
         }
         Seen::Nothing => {
-            let g = assignment(tokens, errors, nodes, s, levels);
+            let g = assignment(tokens, errors, nodes, index, s.looked(1), levels);
             let b = pieces::expression_stmt(nodes, g);
             pieces::fn_node(nodes, b, kind, name, params.node)
         }
     }
 }
 
-fn fn_stmt(tokens: &[u32], errors: &mut [u32], nodes: &mut [u32], p: State, levels: u32) -> Out
-    ensures { λ r. ⌜ reply (r .p) (r .got) (now (errors .exit)) (now (nodes .exit)) ≡ runAt (now (tokens .entry)) levels (fnStmt (now (tokens .entry))) p (now (errors .entry)) (now (nodes .entry)) ⌝ }
+fn fn_stmt(
+    tokens: &[u32],
+    errors: &mut [u32],
+    nodes: &mut [u32],
+    index: &[u32],
+    p: State,
+    levels: u32,
+) -> Out
+    ensures { λ r. ⌜ reply (r .p) (r .got) (now (errors .exit)) (now (nodes .exit)) ≡ runAt (indexed (now (tokens .entry)) (now (index .entry))) levels (fnStmt (indexed (now (tokens .entry)) (now (index .entry)))) p (now (errors .entry)) (now (nodes .entry)) ⌝ }
 {
-    let g = parser::require(tokens, errors, p, Token::IDENTIFIER, 8);
+    let g = parser::require(tokens, errors, index, p, Token::IDENTIFIER, 8);
     let k = g.got;
     let Got::Node(name) = k else {
         return g;
     };
     let q = g.p;
     let outer = q.loops;
-    let h = parser::consume(tokens, errors, q.with_loops(0), Token::LEFT_PAREN, 9);
+    let h = parser::consume(tokens, errors, index, q.with_loops(0), Token::LEFT_PAREN, 9);
     let k = h.got;
     let Got::Node(_) = k else {
         return h;
     };
     let s = h.p;
-    let f = func(tokens, errors, nodes, s, levels, Node::FN, name.node, 11);
+    let f = func(
+        tokens,
+        errors,
+        nodes,
+        index,
+        s,
+        levels,
+        Node::FN,
+        name.node,
+        11,
+    );
     let k = f.got;
     let Got::Node(_) = k else {
         return f;
@@ -109,10 +135,17 @@ fn fn_stmt(tokens: &[u32], errors: &mut [u32], nodes: &mut [u32], p: State, leve
     }
 }
 
-fn fn_expr(tokens: &[u32], errors: &mut [u32], nodes: &mut [u32], p: State, levels: u32) -> Out
-    ensures { λ r. ⌜ reply (r .p) (r .got) (now (errors .exit)) (now (nodes .exit)) ≡ runAt (now (tokens .entry)) levels (fnExpr (now (tokens .entry))) p (now (errors .entry)) (now (nodes .entry)) ⌝ }
+fn fn_expr(
+    tokens: &[u32],
+    errors: &mut [u32],
+    nodes: &mut [u32],
+    index: &[u32],
+    p: State,
+    levels: u32,
+) -> Out
+    ensures { λ r. ⌜ reply (r .p) (r .got) (now (errors .exit)) (now (nodes .exit)) ≡ runAt (indexed (now (tokens .entry)) (now (index .entry))) levels (fnExpr (indexed (now (tokens .entry)) (now (index .entry)))) p (now (errors .entry)) (now (nodes .entry)) ⌝ }
 {
-    let h = parser::consume(tokens, errors, p, Token::LEFT_PAREN, 13);
+    let h = parser::consume(tokens, errors, index, p, Token::LEFT_PAREN, 13);
     let k = h.got;
     let Got::Node(_) = k else {
         return h;
@@ -123,6 +156,7 @@ fn fn_expr(tokens: &[u32], errors: &mut [u32], nodes: &mut [u32], p: State, leve
         tokens,
         errors,
         nodes,
+        index,
         s.with_loops(0),
         levels,
         Node::FN_EXPR,
@@ -140,28 +174,35 @@ fn fn_expr(tokens: &[u32], errors: &mut [u32], nodes: &mut [u32], p: State, leve
     }
 }
 
-fn class(tokens: &[u32], errors: &mut [u32], nodes: &mut [u32], p: State, levels: u32) -> Out
-    ensures { λ r. ⌜ reply (r .p) (r .got) (now (errors .exit)) (now (nodes .exit)) ≡ runAt (now (tokens .entry)) levels (specs.class (now (tokens .entry))) p (now (errors .entry)) (now (nodes .entry)) ⌝ }
+fn class(
+    tokens: &[u32],
+    errors: &mut [u32],
+    nodes: &mut [u32],
+    index: &[u32],
+    p: State,
+    levels: u32,
+) -> Out
+    ensures { λ r. ⌜ reply (r .p) (r .got) (now (errors .exit)) (now (nodes .exit)) ≡ runAt (indexed (now (tokens .entry)) (now (index .entry))) levels (specs.class (indexed (now (tokens .entry)) (now (index .entry)))) p (now (errors .entry)) (now (nodes .entry)) ⌝ }
 {
-    let g = parser::consume(tokens, errors, p, Token::IDENTIFIER, 5);
+    let g = parser::consume(tokens, errors, index, p, Token::IDENTIFIER, 5);
     let k = g.got;
     let Got::Node(name) = k else {
         return g;
     };
     let q = g.p;
-    let h = pieces::superclass(tokens, errors, nodes, q);
+    let h = pieces::superclass(tokens, errors, nodes, index, q);
     let k = h.got;
     let Got::Node(sup) = k else {
         return h;
     };
     let q = h.p;
-    let c = parser::consume(tokens, errors, q, Token::LEFT_CURLY_BRACE, 6);
+    let c = parser::consume(tokens, errors, index, q, Token::LEFT_CURLY_BRACE, 6);
     let k = c.got;
     let Got::Node(_) = k else {
         return c;
     };
     let q = c.p;
-    methods(tokens, errors, nodes, q, levels, name.node, sup.node)
+    methods(tokens, errors, nodes, index, q, levels, name.node, sup.node)
 }
 
 // Methods and static methods, up to the brace or the end; then the class.
@@ -169,12 +210,13 @@ fn methods(
     tokens: &[u32],
     errors: &mut [u32],
     nodes: &mut [u32],
+    index: &[u32],
     p: State,
     levels: u32,
     name: u32,
     sup: u32,
 ) -> Out
-    ensures { λ r. ⌜ reply (r .p) (r .got) (now (errors .exit)) (now (nodes .exit)) ≡ runAt (now (tokens .entry)) levels (methodsFrom (now (tokens .entry)) (fuel (now (tokens .entry))) (endClass name sup) 0 0 0 0) p (now (errors .entry)) (now (nodes .entry)) ⌝ }
+    ensures { λ r. ⌜ reply (r .p) (r .got) (now (errors .exit)) (now (nodes .exit)) ≡ runAt (indexed (now (tokens .entry)) (now (index .entry))) levels (methodsFrom (indexed (now (tokens .entry)) (now (index .entry))) (fuel (indexed (now (tokens .entry)) (now (index .entry)))) (endClass name sup) 0 0 0 0) p (now (errors .entry)) (now (nodes .entry)) ⌝ }
 {
     let mut s = p;
     let mut first = 0;
@@ -183,23 +225,35 @@ fn methods(
     let mut last_static = 0;
     loop {
         let at = s.current;
-        if let Seen::At(i) = parser::check(tokens, at, Token::RIGHT_CURLY_BRACE) {
+        if let Seen::At(i) = parser::check(tokens, index, at, Token::RIGHT_CURLY_BRACE) {
             return pieces::end_class(
                 tokens,
                 errors,
                 nodes,
-                s.at_token(i),
+                index,
+                s.at_token(i, 1),
                 name,
                 first,
                 first_static,
                 sup,
             );
         }
+        let u = s.looked(1);
         if parser::is_at_end(tokens, s) {
-            return pieces::end_class(tokens, errors, nodes, s, name, first, first_static, sup);
+            return pieces::end_class(
+                tokens,
+                errors,
+                nodes,
+                index,
+                u,
+                name,
+                first,
+                first_static,
+                sup,
+            );
         }
-        if let Seen::At(i) = parser::matches(tokens, at, Token::CLASS) {
-            let g = fn_stmt(tokens, errors, nodes, s.at_token(i), levels);
+        if let Seen::At(i) = parser::matches(tokens, index, at, Token::CLASS) {
+            let g = fn_stmt(tokens, errors, nodes, index, u.at_token(i, 1), levels);
             let k = g.got;
             let Got::Node(n) = k else {
                 return g;
@@ -209,7 +263,7 @@ fn methods(
             last_static = n.node;
             s = g.p;
         } else {
-            let g = fn_stmt(tokens, errors, nodes, s, levels);
+            let g = fn_stmt(tokens, errors, nodes, index, u.looked(1), levels);
             let k = g.got;
             let Got::Node(n) = k else {
                 return g;
@@ -222,24 +276,31 @@ fn methods(
     }
 }
 
-fn let_stmt(tokens: &[u32], errors: &mut [u32], nodes: &mut [u32], p: State, levels: u32) -> Out
-    ensures { λ r. ⌜ reply (r .p) (r .got) (now (errors .exit)) (now (nodes .exit)) ≡ runAt (now (tokens .entry)) levels (letStmt (now (tokens .entry))) p (now (errors .entry)) (now (nodes .entry)) ⌝ }
+fn let_stmt(
+    tokens: &[u32],
+    errors: &mut [u32],
+    nodes: &mut [u32],
+    index: &[u32],
+    p: State,
+    levels: u32,
+) -> Out
+    ensures { λ r. ⌜ reply (r .p) (r .got) (now (errors .exit)) (now (nodes .exit)) ≡ runAt (indexed (now (tokens .entry)) (now (index .entry))) levels (letStmt (indexed (now (tokens .entry)) (now (index .entry)))) p (now (errors .entry)) (now (nodes .entry)) ⌝ }
 {
-    let g = parser::require(tokens, errors, p, Token::IDENTIFIER, 5);
+    let g = parser::require(tokens, errors, index, p, Token::IDENTIFIER, 5);
     let k = g.got;
     let Got::Node(name) = k else {
         return g;
     };
     let q = g.p;
     let at = q.current;
-    let Seen::At(i) = parser::matches(tokens, at, Token::EQUAL) else {
+    let Seen::At(i) = parser::matches(tokens, index, at, Token::EQUAL) else {
         return parser::make(
             nodes,
-            q,
+            q.looked(1),
             pieces::row(Node::LET, name.node, 0, 0, 0, 0, 0, 0),
         );
     };
-    let h = assignment(tokens, errors, nodes, q.at_token(i), levels);
+    let h = assignment(tokens, errors, nodes, index, q.at_token(i, 1), levels);
     let k = h.got;
     let Got::Node(e) = k else {
         return h;
@@ -256,74 +317,95 @@ fn for_loop(
     tokens: &[u32],
     errors: &mut [u32],
     nodes: &mut [u32],
+    index: &[u32],
     p: State,
     levels: u32,
     keyword: u32,
 ) -> Out
-    ensures { λ r. ⌜ reply (r .p) (r .got) (now (errors .exit)) (now (nodes .exit)) ≡ runAt (now (tokens .entry)) levels (forLoop (now (tokens .entry)) keyword) p (now (errors .entry)) (now (nodes .entry)) ⌝ }
+    ensures { λ r. ⌜ reply (r .p) (r .got) (now (errors .exit)) (now (nodes .exit)) ≡ runAt (indexed (now (tokens .entry)) (now (index .entry))) levels (forLoop (indexed (now (tokens .entry)) (now (index .entry))) keyword) p (now (errors .entry)) (now (nodes .entry)) ⌝ }
 {
     let s = p.enter_loop();
     let at = s.current;
-    if let Seen::At(i) = parser::check(tokens, at, Token::IDENTIFIER) {
-        return for_in(tokens, errors, nodes, s.at_token(i), levels, keyword);
+    if let Seen::At(i) = parser::check(tokens, index, at, Token::IDENTIFIER) {
+        return for_in(
+            tokens,
+            errors,
+            nodes,
+            index,
+            s.at_token(i, 1),
+            levels,
+            keyword,
+        );
     }
-    if let Seen::At(i) = parser::matches(tokens, at, Token::SEMICOLON) {
-        return for_c(tokens, errors, nodes, s.at_token(i), levels, keyword, 0);
+    let s = s.looked(1);
+    if let Seen::At(i) = parser::matches(tokens, index, at, Token::SEMICOLON) {
+        return for_c(
+            tokens,
+            errors,
+            nodes,
+            index,
+            s.at_token(i, 1),
+            levels,
+            keyword,
+            0,
+        );
     }
-    if let Seen::At(i) = parser::matches(tokens, at, Token::LET) {
-        let g = let_stmt(tokens, errors, nodes, s.at_token(i), levels);
+    let s = s.looked(1);
+    if let Seen::At(i) = parser::matches(tokens, index, at, Token::LET) {
+        let g = let_stmt(tokens, errors, nodes, index, s.at_token(i, 1), levels);
         let k = g.got;
         let Got::Node(n) = k else {
             return g;
         };
         let q = g.p;
-        let h = parser::consume(tokens, errors, q, Token::SEMICOLON, 15);
+        let h = parser::consume(tokens, errors, index, q, Token::SEMICOLON, 15);
         let k = h.got;
         let Got::Node(_) = k else {
             return h;
         };
         let q = h.p;
-        return for_c(tokens, errors, nodes, q, levels, keyword, n.node);
+        return for_c(tokens, errors, nodes, index, q, levels, keyword, n.node);
     }
-    let h = parser::set_error(tokens, errors, s, 16, at);
+    let h = parser::set_error(tokens, errors, s.looked(1), 16, at);
     let k = h.got;
     let Got::Node(_) = k else {
         return h;
     };
     let q = h.p;
-    for_c(tokens, errors, nodes, q, levels, keyword, 0)
+    for_c(tokens, errors, nodes, index, q, levels, keyword, 0)
 }
 
 fn for_c(
     tokens: &[u32],
     errors: &mut [u32],
     nodes: &mut [u32],
+    index: &[u32],
     p: State,
     levels: u32,
     keyword: u32,
     init: u32,
 ) -> Out
-    ensures { λ r. ⌜ reply (r .p) (r .got) (now (errors .exit)) (now (nodes .exit)) ≡ runAt (now (tokens .entry)) levels (pieces.classic (now (tokens .entry)) keyword init) p (now (errors .entry)) (now (nodes .entry)) ⌝ }
+    ensures { λ r. ⌜ reply (r .p) (r .got) (now (errors .exit)) (now (nodes .exit)) ≡ runAt (indexed (now (tokens .entry)) (now (index .entry))) levels (pieces.classic (indexed (now (tokens .entry)) (now (index .entry))) keyword init) p (now (errors .entry)) (now (nodes .entry)) ⌝ }
 {
-    let g = assignment(tokens, errors, nodes, p, levels);
+    let g = assignment(tokens, errors, nodes, index, p, levels);
     let k = g.got;
     let Got::Node(cond) = k else {
         return g;
     };
     let q = g.p;
-    let h = parser::consume(tokens, errors, q, Token::SEMICOLON, 15);
+    let h = parser::consume(tokens, errors, index, q, Token::SEMICOLON, 15);
     let k = h.got;
     let Got::Node(_) = k else {
         return h;
     };
     let q = h.p;
-    let g = assignment(tokens, errors, nodes, q, levels);
+    let g = assignment(tokens, errors, nodes, index, q, levels);
     let k = g.got;
     let Got::Node(inc) = k else {
         return g;
     };
     let q = g.p;
-    let g = declaration(tokens, errors, nodes, q, levels);
+    let g = declaration(tokens, errors, nodes, index, q, levels);
     let k = g.got;
     let Got::Node(stmt) = k else {
         return g;
@@ -349,56 +431,64 @@ fn for_in(
     tokens: &[u32],
     errors: &mut [u32],
     nodes: &mut [u32],
+    index: &[u32],
     p: State,
     levels: u32,
     keyword: u32,
 ) -> Out
-    ensures { λ r. ⌜ reply (r .p) (r .got) (now (errors .exit)) (now (nodes .exit)) ≡ runAt (now (tokens .entry)) levels (enhancedFor (now (tokens .entry)) keyword) p (now (errors .entry)) (now (nodes .entry)) ⌝ }
+    ensures { λ r. ⌜ reply (r .p) (r .got) (now (errors .exit)) (now (nodes .exit)) ≡ runAt (indexed (now (tokens .entry)) (now (index .entry))) levels (enhancedFor (indexed (now (tokens .entry)) (now (index .entry))) keyword) p (now (errors .entry)) (now (nodes .entry)) ⌝ }
 {
-    let g = pieces::names(tokens, nodes, p);
+    let g = pieces::names(tokens, nodes, index, p);
     let k = g.got;
     let Got::Node(ids) = k else {
         return g;
     };
     let q = g.p;
-    let h = parser::consume(tokens, errors, q, Token::IN, 17);
+    let h = parser::consume(tokens, errors, index, q, Token::IN, 17);
     let k = h.got;
     let Got::Node(_) = k else {
         return h;
     };
     let q = h.p;
-    let g = assignment(tokens, errors, nodes, q, levels);
+    let g = assignment(tokens, errors, nodes, index, q, levels);
     let k = g.got;
     let Got::Node(collection) = k else {
         return g;
     };
     let q = g.p;
-    let stmt = declaration(tokens, errors, nodes, q, levels);
+    let stmt = declaration(tokens, errors, nodes, index, q, levels);
     pieces::for_node(nodes, stmt, keyword, ids.node, collection.node)
 }
 
-fn try_catch(tokens: &[u32], errors: &mut [u32], nodes: &mut [u32], p: State, levels: u32) -> Out
-    ensures { λ r. ⌜ reply (r .p) (r .got) (now (errors .exit)) (now (nodes .exit)) ≡ runAt (now (tokens .entry)) levels (tryCatch (now (tokens .entry))) p (now (errors .entry)) (now (nodes .entry)) ⌝ }
+fn try_catch(
+    tokens: &[u32],
+    errors: &mut [u32],
+    nodes: &mut [u32],
+    index: &[u32],
+    p: State,
+    levels: u32,
+) -> Out
+    ensures { λ r. ⌜ reply (r .p) (r .got) (now (errors .exit)) (now (nodes .exit)) ≡ runAt (indexed (now (tokens .entry)) (now (index .entry))) levels (tryCatch (indexed (now (tokens .entry)) (now (index .entry)))) p (now (errors .entry)) (now (nodes .entry)) ⌝ }
 {
-    let g = declaration(tokens, errors, nodes, p, levels);
+    let g = declaration(tokens, errors, nodes, index, p, levels);
     let k = g.got;
     let Got::Node(tried) = k else {
         return g;
     };
     let q = g.p;
-    let h = parser::consume(tokens, errors, q, Token::CATCH, 18);
+    let h = parser::consume(tokens, errors, index, q, Token::CATCH, 18);
     let k = h.got;
     let Got::Node(_) = k else {
         return h;
     };
     let q = h.p;
-    let h = parser::require(tokens, errors, q, Token::IDENTIFIER, 5);
+    let h = parser::require(tokens, errors, index, q, Token::IDENTIFIER, 5);
     let k = h.got;
     let Got::Node(name) = k else {
         return h;
     };
     let q = h.p;
-    let g = declaration(tokens, errors, nodes, q, levels);
+    let g = declaration(tokens, errors, nodes, index, q, levels);
     let k = g.got;
     let Got::Node(caught) = k else {
         return g;
@@ -424,78 +514,93 @@ fn if_stmt(
     tokens: &[u32],
     errors: &mut [u32],
     nodes: &mut [u32],
+    index: &[u32],
     p: State,
     levels: u32,
     keyword: u32,
 ) -> Out
-    ensures { λ r. ⌜ reply (r .p) (r .got) (now (errors .exit)) (now (nodes .exit)) ≡ runAt (now (tokens .entry)) levels (ifStmt (now (tokens .entry)) keyword) p (now (errors .entry)) (now (nodes .entry)) ⌝ }
+    ensures { λ r. ⌜ reply (r .p) (r .got) (now (errors .exit)) (now (nodes .exit)) ≡ runAt (indexed (now (tokens .entry)) (now (index .entry))) levels (ifStmt (indexed (now (tokens .entry)) (now (index .entry))) keyword) p (now (errors .entry)) (now (nodes .entry)) ⌝ }
 {
-    let g = assignment(tokens, errors, nodes, p, levels);
+    let g = assignment(tokens, errors, nodes, index, p, levels);
     let k = g.got;
     let Got::Node(cond) = k else {
         return g;
     };
     let q = g.p;
-    let g = parser::consume(tokens, errors, q, Token::LEFT_CURLY_BRACE, 6);
+    let g = parser::consume(tokens, errors, index, q, Token::LEFT_CURLY_BRACE, 6);
     let k = g.got;
     let Got::Node(_) = k else {
         return g;
     };
     let q = g.p;
-    let g = block(tokens, errors, nodes, q, levels);
+    let g = block(tokens, errors, nodes, index, q, levels);
     let k = g.got;
     let Got::Node(stmts) = k else {
         return g;
     };
     let q = g.p;
-    let g = elifs(tokens, errors, nodes, q, levels);
+    let g = elifs(tokens, errors, nodes, index, q, levels);
     let k = g.got;
     let Got::Node(e) = k else {
         return g;
     };
     let q = g.p;
     let at = q.current;
-    let Seen::At(i) = parser::matches(tokens, at, Token::ELSE) else {
+    let Seen::At(i) = parser::matches(tokens, index, at, Token::ELSE) else {
         return parser::make(
             nodes,
-            q,
+            q.looked(1),
             pieces::row(Node::IF, keyword, 0, 0, cond.node, stmts.node, e.node, 0),
         );
     };
-    let g = parser::consume(tokens, errors, q.at_token(i), Token::LEFT_CURLY_BRACE, 6);
+    let g = parser::consume(
+        tokens,
+        errors,
+        index,
+        q.at_token(i, 1),
+        Token::LEFT_CURLY_BRACE,
+        6,
+    );
     let k = g.got;
     let Got::Node(_) = k else {
         return g;
     };
     let q = g.p;
-    let o = block(tokens, errors, nodes, q, levels);
+    let o = block(tokens, errors, nodes, index, q, levels);
     pieces::if_node(nodes, o, keyword, cond.node, stmts.node, e.node)
 }
 
-fn elifs(tokens: &[u32], errors: &mut [u32], nodes: &mut [u32], p: State, levels: u32) -> Out
-    ensures { λ r. ⌜ reply (r .p) (r .got) (now (errors .exit)) (now (nodes .exit)) ≡ runAt (now (tokens .entry)) levels (elifsFrom (now (tokens .entry)) (fuel (now (tokens .entry))) 0 0) p (now (errors .entry)) (now (nodes .entry)) ⌝ }
+fn elifs(
+    tokens: &[u32],
+    errors: &mut [u32],
+    nodes: &mut [u32],
+    index: &[u32],
+    p: State,
+    levels: u32,
+) -> Out
+    ensures { λ r. ⌜ reply (r .p) (r .got) (now (errors .exit)) (now (nodes .exit)) ≡ runAt (indexed (now (tokens .entry)) (now (index .entry))) levels (elifsFrom (indexed (now (tokens .entry)) (now (index .entry))) (fuel (indexed (now (tokens .entry)) (now (index .entry)))) 0 0) p (now (errors .entry)) (now (nodes .entry)) ⌝ }
 {
     let mut s = p;
     let mut first = 0;
     let mut last = 0;
     loop {
         let at = s.current;
-        let Seen::At(i) = parser::matches(tokens, at, Token::ELIF) else {
-            return parser::gives(s, first);
+        let Seen::At(i) = parser::matches(tokens, index, at, Token::ELIF) else {
+            return parser::gives(s.looked(1), first);
         };
-        let g = assignment(tokens, errors, nodes, s.at_token(i), levels);
+        let g = assignment(tokens, errors, nodes, index, s.at_token(i, 1), levels);
         let k = g.got;
         let Got::Node(cond) = k else {
             return g;
         };
         let q = g.p;
-        let g = parser::consume(tokens, errors, q, Token::LEFT_CURLY_BRACE, 6);
+        let g = parser::consume(tokens, errors, index, q, Token::LEFT_CURLY_BRACE, 6);
         let k = g.got;
         let Got::Node(_) = k else {
             return g;
         };
         let q = g.p;
-        let g = block(tokens, errors, nodes, q, levels);
+        let g = block(tokens, errors, nodes, index, q, levels);
         let k = g.got;
         let Got::Node(stmts) = k else {
             return g;
@@ -521,21 +626,22 @@ fn ret(
     tokens: &[u32],
     errors: &mut [u32],
     nodes: &mut [u32],
+    index: &[u32],
     p: State,
     levels: u32,
     keyword: u32,
 ) -> Out
-    ensures { λ r. ⌜ reply (r .p) (r .got) (now (errors .exit)) (now (nodes .exit)) ≡ runAt (now (tokens .entry)) levels (specs.ret (now (tokens .entry)) keyword) p (now (errors .entry)) (now (nodes .entry)) ⌝ }
+    ensures { λ r. ⌜ reply (r .p) (r .got) (now (errors .exit)) (now (nodes .exit)) ≡ runAt (indexed (now (tokens .entry)) (now (index .entry))) levels (specs.ret (indexed (now (tokens .entry)) (now (index .entry))) keyword) p (now (errors .entry)) (now (nodes .entry)) ⌝ }
 {
     let at = p.current;
-    if let Seen::At(i) = parser::check(tokens, at, Token::NEWLINE) {
+    if let Seen::At(i) = parser::check(tokens, index, at, Token::NEWLINE) {
         return parser::make(
             nodes,
-            p.at_token(i),
+            p.at_token(i, 1),
             pieces::row(Node::RETURN, keyword, 0, 0, 0, 0, 0, 0),
         );
     }
-    let g = assignment(tokens, errors, nodes, p, levels);
+    let g = assignment(tokens, errors, nodes, index, p.looked(1), levels);
     let k = g.got;
     let Got::Node(e) = k else {
         return g;
@@ -552,19 +658,20 @@ fn while_stmt(
     tokens: &[u32],
     errors: &mut [u32],
     nodes: &mut [u32],
+    index: &[u32],
     p: State,
     levels: u32,
     keyword: u32,
 ) -> Out
-    ensures { λ r. ⌜ reply (r .p) (r .got) (now (errors .exit)) (now (nodes .exit)) ≡ runAt (now (tokens .entry)) levels (whileStmt (now (tokens .entry)) keyword) p (now (errors .entry)) (now (nodes .entry)) ⌝ }
+    ensures { λ r. ⌜ reply (r .p) (r .got) (now (errors .exit)) (now (nodes .exit)) ≡ runAt (indexed (now (tokens .entry)) (now (index .entry))) levels (whileStmt (indexed (now (tokens .entry)) (now (index .entry))) keyword) p (now (errors .entry)) (now (nodes .entry)) ⌝ }
 {
-    let g = assignment(tokens, errors, nodes, p.enter_loop(), levels);
+    let g = assignment(tokens, errors, nodes, index, p.enter_loop(), levels);
     let k = g.got;
     let Got::Node(cond) = k else {
         return g;
     };
     let q = g.p;
-    let g = declaration(tokens, errors, nodes, q, levels);
+    let g = declaration(tokens, errors, nodes, index, q, levels);
     let k = g.got;
     let Got::Node(stmt) = k else {
         return g;
@@ -578,36 +685,43 @@ fn while_stmt(
 }
 
 // `statement`: one look at the next token that is no Newline, then the tests in the Rust's order.
-fn stmt(tokens: &[u32], errors: &mut [u32], nodes: &mut [u32], p: State, levels: u32) -> Out
-    ensures { λ r. ⌜ reply (r .p) (r .got) (now (errors .exit)) (now (nodes .exit)) ≡ runAt (now (tokens .entry)) levels (specs.statement (now (tokens .entry))) p (now (errors .entry)) (now (nodes .entry)) ⌝ }
+fn stmt(
+    tokens: &[u32],
+    errors: &mut [u32],
+    nodes: &mut [u32],
+    index: &[u32],
+    p: State,
+    levels: u32,
+) -> Out
+    ensures { λ r. ⌜ reply (r .p) (r .got) (now (errors .exit)) (now (nodes .exit)) ≡ runAt (indexed (now (tokens .entry)) (now (index .entry))) levels (specs.statement (indexed (now (tokens .entry)) (now (index .entry)))) p (now (errors .entry)) (now (nodes .entry)) ⌝ }
 {
     let at = p.current;
-    let coming = parser::peek(tokens, at);
+    let coming = parser::peek(tokens, index, at);
     let kind = coming.kind;
     let i = coming.past;
     if kind == Token::FOR {
-        return for_loop(tokens, errors, nodes, p.at_token(i), levels, i);
+        return for_loop(tokens, errors, nodes, index, p.at_token(i, 1), levels, i);
     }
     if kind == Token::TRY {
-        return try_catch(tokens, errors, nodes, p.at_token(i), levels);
+        return try_catch(tokens, errors, nodes, index, p.at_token(i, 2), levels);
     }
     if kind == Token::IF {
-        return if_stmt(tokens, errors, nodes, p.at_token(i), levels, i);
+        return if_stmt(tokens, errors, nodes, index, p.at_token(i, 3), levels, i);
     }
     if kind == Token::RETURN {
-        return ret(tokens, errors, nodes, p.at_token(i), levels, i);
+        return ret(tokens, errors, nodes, index, p.at_token(i, 4), levels, i);
     }
     if kind == Token::BREAK {
-        return pieces::jump(tokens, errors, nodes, p.at_token(i), Node::BREAK, i);
+        return pieces::jump(tokens, errors, nodes, p.at_token(i, 5), Node::BREAK, i);
     }
     if kind == Token::CONTINUE {
-        return pieces::jump(tokens, errors, nodes, p.at_token(i), Node::CONTINUE, i);
+        return pieces::jump(tokens, errors, nodes, p.at_token(i, 6), Node::CONTINUE, i);
     }
     if kind == Token::WHILE {
-        return while_stmt(tokens, errors, nodes, p.at_token(i), levels, i);
+        return while_stmt(tokens, errors, nodes, index, p.at_token(i, 7), levels, i);
     }
     if kind == Token::LEFT_CURLY_BRACE {
-        let g = block(tokens, errors, nodes, p.at_token(i), levels);
+        let g = block(tokens, errors, nodes, index, p.at_token(i, 8), levels);
         let k = g.got;
         let Got::Node(b) = k else {
             return g;
@@ -615,7 +729,7 @@ fn stmt(tokens: &[u32], errors: &mut [u32], nodes: &mut [u32], p: State, levels:
         let q = g.p;
         return parser::make(nodes, q, pieces::row(Node::BLOCK, 0, 0, 0, b.node, 0, 0, 0));
     }
-    let g = assignment(tokens, errors, nodes, p, levels);
+    let g = assignment(tokens, errors, nodes, index, p.looked(8), levels);
     pieces::expression_stmt(nodes, g)
 }
 
@@ -624,28 +738,29 @@ pub fn declaration(
     tokens: &[u32],
     errors: &mut [u32],
     nodes: &mut [u32],
+    index: &[u32],
     p: State,
     levels: u32,
 ) -> Out
-    ensures { λ r. ⌜ reply (r .p) (r .got) (now (errors .exit)) (now (nodes .exit)) ≡ lower (now (tokens .entry)) levels Declaration p (now (errors .entry)) (now (nodes .entry)) ⌝ }
+    ensures { λ r. ⌜ reply (r .p) (r .got) (now (errors .exit)) (now (nodes .exit)) ≡ lower (indexed (now (tokens .entry)) (now (index .entry))) levels Declaration p (now (errors .entry)) (now (nodes .entry)) ⌝ }
 {
     if levels == 0 {
         return parser::stopped(p, Outcome::TOO_DEEP);
     }
     let at = p.current;
-    let coming = parser::peek(tokens, at);
+    let coming = parser::peek(tokens, index, at);
     let kind = coming.kind;
     let i = coming.past;
     if kind == Token::CLASS {
-        return class(tokens, errors, nodes, p.at_token(i), levels - 1);
+        return class(tokens, errors, nodes, index, p.at_token(i, 1), levels - 1);
     }
     if kind == Token::FN {
-        return fn_stmt(tokens, errors, nodes, p.at_token(i), levels - 1);
+        return fn_stmt(tokens, errors, nodes, index, p.at_token(i, 2), levels - 1);
     }
     if kind == Token::LET {
-        return let_stmt(tokens, errors, nodes, p.at_token(i), levels - 1);
+        return let_stmt(tokens, errors, nodes, index, p.at_token(i, 3), levels - 1);
     }
-    stmt(tokens, errors, nodes, p, levels - 1)
+    stmt(tokens, errors, nodes, index, p.looked(3), levels - 1)
 }
 
 // Up to the mark, or to what is no comma; the 256th argument of a call is message 27.
@@ -653,17 +768,18 @@ fn arguments(
     tokens: &[u32],
     errors: &mut [u32],
     nodes: &mut [u32],
+    index: &[u32],
     p: State,
     levels: u32,
     mark: u32,
 ) -> Out
-    ensures { λ r. ⌜ reply (r .p) (r .got) (now (errors .exit)) (now (nodes .exit)) ≡ runAt (now (tokens .entry)) levels (specs.arguments (now (tokens .entry)) mark) p (now (errors .entry)) (now (nodes .entry)) ⌝ }
+    ensures { λ r. ⌜ reply (r .p) (r .got) (now (errors .exit)) (now (nodes .exit)) ≡ runAt (indexed (now (tokens .entry)) (now (index .entry))) levels (specs.arguments (indexed (now (tokens .entry)) (now (index .entry))) mark) p (now (errors .entry)) (now (nodes .entry)) ⌝ }
 {
     let at = p.current;
-    if let Seen::At(i) = parser::check(tokens, at, mark) {
-        return parser::gives(p.at_token(i), 0);
+    if let Seen::At(i) = parser::check(tokens, index, at, mark) {
+        return parser::gives(p.at_token(i, 1), 0);
     }
-    let mut s = p;
+    let mut s = p.looked(1);
     let mut first = 0;
     let mut last = 0;
     let mut n: u32 = 0;
@@ -672,7 +788,7 @@ fn arguments(
             let at = s.current;
             return pieces::fatal(tokens, errors, s, 27, at);
         }
-        let g = assignment(tokens, errors, nodes, s, levels);
+        let g = assignment(tokens, errors, nodes, index, s, levels);
         let k = g.got;
         let Got::Node(e) = k else {
             return g;
@@ -683,41 +799,49 @@ fn arguments(
         n += 1;
         let u = g.p;
         let at = u.current;
-        let Seen::At(i) = parser::matches(tokens, at, Token::COMMA) else {
-            return parser::gives(u, first);
+        let Seen::At(i) = parser::matches(tokens, index, at, Token::COMMA) else {
+            return parser::gives(u.looked(1), first);
         };
-        if let Seen::At(j) = parser::check(tokens, i, mark) {
-            return parser::gives(u.at_token(j), first);
+        let v = u.at_token(i, 1);
+        if let Seen::At(j) = parser::check(tokens, index, i, mark) {
+            return parser::gives(v.at_token(j, 1), first);
         }
-        s = u.at_token(i);
+        s = v.looked(1);
     }
 }
 
 // Keys and values in turn.
-fn pairs(tokens: &[u32], errors: &mut [u32], nodes: &mut [u32], p: State, levels: u32) -> Out
-    ensures { λ r. ⌜ reply (r .p) (r .got) (now (errors .exit)) (now (nodes .exit)) ≡ runAt (now (tokens .entry)) levels (dictElementsFrom (now (tokens .entry)) (fuel (now (tokens .entry))) 0 0) p (now (errors .entry)) (now (nodes .entry)) ⌝ }
+fn pairs(
+    tokens: &[u32],
+    errors: &mut [u32],
+    nodes: &mut [u32],
+    index: &[u32],
+    p: State,
+    levels: u32,
+) -> Out
+    ensures { λ r. ⌜ reply (r .p) (r .got) (now (errors .exit)) (now (nodes .exit)) ≡ runAt (indexed (now (tokens .entry)) (now (index .entry))) levels (dictElementsFrom (indexed (now (tokens .entry)) (now (index .entry))) (fuel (indexed (now (tokens .entry)) (now (index .entry)))) 0 0) p (now (errors .entry)) (now (nodes .entry)) ⌝ }
 {
     let mut s = p;
     let mut first = 0;
     let mut last = 0;
     loop {
         let at = s.current;
-        if let Seen::At(i) = parser::check(tokens, at, Token::RIGHT_CURLY_BRACE) {
-            return parser::gives(s.at_token(i), first);
+        if let Seen::At(i) = parser::check(tokens, index, at, Token::RIGHT_CURLY_BRACE) {
+            return parser::gives(s.at_token(i, 1), first);
         }
-        let g = assignment(tokens, errors, nodes, s, levels);
+        let g = assignment(tokens, errors, nodes, index, s.looked(1), levels);
         let k = g.got;
         let Got::Node(key) = k else {
             return g;
         };
         let q = g.p;
-        let h = parser::consume(tokens, errors, q, Token::COLON, 22);
+        let h = parser::consume(tokens, errors, index, q, Token::COLON, 22);
         let k = h.got;
         let Got::Node(_) = k else {
             return h;
         };
         let q = h.p;
-        let g = assignment(tokens, errors, nodes, q, levels);
+        let g = assignment(tokens, errors, nodes, index, q, levels);
         let k = g.got;
         let Got::Node(value) = k else {
             return g;
@@ -728,10 +852,10 @@ fn pairs(tokens: &[u32], errors: &mut [u32], nodes: &mut [u32], p: State, levels
         first = parser::first_of(first, key.node);
         last = value.node;
         let at = u.current;
-        let Seen::At(i) = parser::matches(tokens, at, Token::COMMA) else {
-            return parser::gives(u, first);
+        let Seen::At(i) = parser::matches(tokens, index, at, Token::COMMA) else {
+            return parser::gives(u.looked(1), first);
         };
-        s = u.at_token(i);
+        s = u.at_token(i, 1);
     }
 }
 
@@ -740,32 +864,34 @@ fn upto(
     tokens: &[u32],
     errors: &mut [u32],
     nodes: &mut [u32],
+    index: &[u32],
     p: State,
     levels: u32,
     object: Found,
     brace: u32,
     c: u32,
 ) -> Out
-    ensures { λ r. ⌜ reply (r .p) (r .got) (now (errors .exit)) (now (nodes .exit)) ≡ runAt (now (tokens .entry)) levels (openSlice (now (tokens .entry)) object brace c) p (now (errors .entry)) (now (nodes .entry)) ⌝ }
+    ensures { λ r. ⌜ reply (r .p) (r .got) (now (errors .exit)) (now (nodes .exit)) ≡ runAt (indexed (now (tokens .entry)) (now (index .entry))) levels (openSlice (indexed (now (tokens .entry)) (now (index .entry))) object brace c) p (now (errors .entry)) (now (nodes .entry)) ⌝ }
 {
     let at = p.current;
-    if let Seen::At(d) = parser::matches(tokens, at, Token::COLON) {
-        let g = assignment(tokens, errors, nodes, p.at_token(d), levels);
-        return pieces::step(tokens, errors, nodes, g, object, brace, 0, c, 0, d);
+    if let Seen::At(d) = parser::matches(tokens, index, at, Token::COLON) {
+        let g = assignment(tokens, errors, nodes, index, p.at_token(d, 1), levels);
+        return pieces::step(tokens, errors, nodes, index, g, object, brace, 0, c, 0, d);
     }
-    let g = assignment(tokens, errors, nodes, p, levels);
+    let g = assignment(tokens, errors, nodes, index, p.looked(1), levels);
     let k = g.got;
     let Got::Node(second) = k else {
         return g;
     };
     let q = g.p;
     let at = q.current;
-    if let Seen::At(d) = parser::matches(tokens, at, Token::COLON) {
-        let g = assignment(tokens, errors, nodes, q.at_token(d), levels);
+    if let Seen::At(d) = parser::matches(tokens, index, at, Token::COLON) {
+        let g = assignment(tokens, errors, nodes, index, q.at_token(d, 1), levels);
         return pieces::step(
             tokens,
             errors,
             nodes,
+            index,
             g,
             object,
             brace,
@@ -779,7 +905,8 @@ fn upto(
         tokens,
         errors,
         nodes,
-        q,
+        index,
+        q.looked(1),
         object,
         brace,
         0,
@@ -795,6 +922,7 @@ fn slice(
     tokens: &[u32],
     errors: &mut [u32],
     nodes: &mut [u32],
+    index: &[u32],
     p: State,
     levels: u32,
     object: Found,
@@ -802,19 +930,33 @@ fn slice(
     first: u32,
     c: u32,
 ) -> Out
-    ensures { λ r. ⌜ reply (r .p) (r .got) (now (errors .exit)) (now (nodes .exit)) ≡ runAt (now (tokens .entry)) levels (specs.slice (now (tokens .entry)) object brace first c) p (now (errors .entry)) (now (nodes .entry)) ⌝ }
+    ensures { λ r. ⌜ reply (r .p) (r .got) (now (errors .exit)) (now (nodes .exit)) ≡ runAt (indexed (now (tokens .entry)) (now (index .entry))) levels (specs.slice (indexed (now (tokens .entry)) (now (index .entry))) object brace first c) p (now (errors .entry)) (now (nodes .entry)) ⌝ }
 {
     let at = p.current;
-    if let Seen::At(d) = parser::matches(tokens, at, Token::COLON) {
-        let g = assignment(tokens, errors, nodes, p.at_token(d), levels);
-        return pieces::step(tokens, errors, nodes, g, object, brace, first, c, 0, d);
+    if let Seen::At(d) = parser::matches(tokens, index, at, Token::COLON) {
+        let g = assignment(tokens, errors, nodes, index, p.at_token(d, 1), levels);
+        return pieces::step(
+            tokens,
+            errors,
+            nodes,
+            index,
+            g,
+            object,
+            brace,
+            first,
+            c,
+            0,
+            d,
+        );
     }
-    if let Seen::At(i) = parser::check(tokens, at, Token::RIGHT_BRACE) {
+    let u = p.looked(1);
+    if let Seen::At(i) = parser::check(tokens, index, at, Token::RIGHT_BRACE) {
         return pieces::close_access(
             tokens,
             errors,
             nodes,
-            p.at_token(i),
+            index,
+            u.at_token(i, 1),
             object,
             brace,
             first,
@@ -824,22 +966,37 @@ fn slice(
             0,
         );
     }
+    let v = u.looked(1);
     if parser::is_at_end(tokens, p) {
-        return pieces::close_access(tokens, errors, nodes, p, object, brace, first, c, 0, 0, 0);
+        return pieces::close_access(
+            tokens,
+            errors,
+            nodes,
+            index,
+            v,
+            object,
+            brace,
+            first,
+            c,
+            0,
+            0,
+            0,
+        );
     }
-    let g = assignment(tokens, errors, nodes, p, levels);
+    let g = assignment(tokens, errors, nodes, index, v, levels);
     let k = g.got;
     let Got::Node(second) = k else {
         return g;
     };
     let q = g.p;
     let at = q.current;
-    let Seen::At(d) = parser::matches(tokens, at, Token::COLON) else {
+    let Seen::At(d) = parser::matches(tokens, index, at, Token::COLON) else {
         return pieces::close_access(
             tokens,
             errors,
             nodes,
-            q,
+            index,
+            q.looked(1),
             object,
             brace,
             first,
@@ -849,13 +1006,14 @@ fn slice(
             0,
         );
     };
-    let s = q.at_token(d);
-    if let Seen::At(i) = parser::check(tokens, d, Token::RIGHT_BRACE) {
+    let s = q.at_token(d, 1);
+    if let Seen::At(i) = parser::check(tokens, index, d, Token::RIGHT_BRACE) {
         return pieces::close_access(
             tokens,
             errors,
             nodes,
-            s.at_token(i),
+            index,
+            s.at_token(i, 1),
             object,
             brace,
             first,
@@ -865,12 +1023,14 @@ fn slice(
             0,
         );
     }
+    let w = s.looked(1);
     if parser::is_at_end(tokens, s) {
         return pieces::close_access(
             tokens,
             errors,
             nodes,
-            s,
+            index,
+            w,
             object,
             brace,
             first,
@@ -880,11 +1040,12 @@ fn slice(
             0,
         );
     }
-    let g = assignment(tokens, errors, nodes, s, levels);
+    let g = assignment(tokens, errors, nodes, index, w, levels);
     pieces::step(
         tokens,
         errors,
         nodes,
+        index,
         g,
         object,
         brace,
@@ -899,39 +1060,42 @@ fn access(
     tokens: &[u32],
     errors: &mut [u32],
     nodes: &mut [u32],
+    index: &[u32],
     p: State,
     levels: u32,
     object: Found,
     brace: u32,
 ) -> Out
-    ensures { λ r. ⌜ reply (r .p) (r .got) (now (errors .exit)) (now (nodes .exit)) ≡ runAt (now (tokens .entry)) levels (specs.access (now (tokens .entry)) object brace) p (now (errors .entry)) (now (nodes .entry)) ⌝ }
+    ensures { λ r. ⌜ reply (r .p) (r .got) (now (errors .exit)) (now (nodes .exit)) ≡ runAt (indexed (now (tokens .entry)) (now (index .entry))) levels (specs.access (indexed (now (tokens .entry)) (now (index .entry))) object brace) p (now (errors .entry)) (now (nodes .entry)) ⌝ }
 {
     let at = p.current;
-    if let Seen::At(c) = parser::matches(tokens, at, Token::COLON) {
+    if let Seen::At(c) = parser::matches(tokens, index, at, Token::COLON) {
         return upto(
             tokens,
             errors,
             nodes,
-            p.at_token(c),
+            index,
+            p.at_token(c, 1),
             levels,
             object,
             brace,
             c,
         );
     }
-    let g = assignment(tokens, errors, nodes, p, levels);
+    let g = assignment(tokens, errors, nodes, index, p.looked(1), levels);
     let k = g.got;
     let Got::Node(first) = k else {
         return g;
     };
     let q = g.p;
     let at = q.current;
-    if let Seen::At(c) = parser::matches(tokens, at, Token::COLON) {
+    if let Seen::At(c) = parser::matches(tokens, index, at, Token::COLON) {
         return slice(
             tokens,
             errors,
             nodes,
-            q.at_token(c),
+            index,
+            q.at_token(c, 1),
             levels,
             object,
             brace,
@@ -943,7 +1107,8 @@ fn access(
         tokens,
         errors,
         nodes,
-        q,
+        index,
+        q.looked(1),
         object,
         brace,
         first.node,
@@ -954,70 +1119,87 @@ fn access(
     )
 }
 
-fn primary(tokens: &[u32], errors: &mut [u32], nodes: &mut [u32], p: State, levels: u32) -> Out
-    ensures { λ r. ⌜ reply (r .p) (r .got) (now (errors .exit)) (now (nodes .exit)) ≡ runAt (now (tokens .entry)) levels (specs.primary (now (tokens .entry))) p (now (errors .entry)) (now (nodes .entry)) ⌝ }
+fn primary(
+    tokens: &[u32],
+    errors: &mut [u32],
+    nodes: &mut [u32],
+    index: &[u32],
+    p: State,
+    levels: u32,
+) -> Out
+    ensures { λ r. ⌜ reply (r .p) (r .got) (now (errors .exit)) (now (nodes .exit)) ≡ runAt (indexed (now (tokens .entry)) (now (index .entry))) levels (specs.primary (indexed (now (tokens .entry)) (now (index .entry)))) p (now (errors .entry)) (now (nodes .entry)) ⌝ }
 {
     let at = p.current;
-    let coming = parser::peek(tokens, at);
+    let coming = parser::peek(tokens, index, at);
     let kind = coming.kind;
     let j = coming.past;
-    if pieces::is_literal(kind) {
+    let n = pieces::literal_place(kind);
+    if n != 0 {
         return parser::make(
             nodes,
-            p.at_token(j),
+            p.at_token(j, n),
             pieces::row(Node::LITERAL, j, 0, 0, 0, 0, 0, 0),
         );
     }
     if kind == Token::IDENTIFIER {
-        return pieces::variable(nodes, p.at_token(j), j);
+        return pieces::variable(nodes, p.at_token(j, 6), j);
     }
     if kind == Token::LEFT_PAREN {
-        let g = assignment(tokens, errors, nodes, p.at_token(j), levels);
+        let g = assignment(tokens, errors, nodes, index, p.at_token(j, 7), levels);
         let k = g.got;
         let Got::Node(e) = k else {
             return g;
         };
         let q = g.p;
-        return pieces::grouping(tokens, errors, nodes, q, e.node);
+        return pieces::grouping(tokens, errors, nodes, index, q, e.node);
     }
     if kind == Token::LEFT_BRACE {
         let g = arguments(
             tokens,
             errors,
             nodes,
-            p.at_token(j),
+            index,
+            p.at_token(j, 8),
             levels,
             Token::RIGHT_BRACE,
         );
-        return pieces::list(tokens, errors, nodes, g);
+        return pieces::list(tokens, errors, nodes, index, g);
     }
     if kind == Token::LEFT_CURLY_BRACE {
-        let g = pairs(tokens, errors, nodes, p.at_token(j), levels);
-        return pieces::dictionary(tokens, errors, nodes, g);
+        let g = pairs(tokens, errors, nodes, index, p.at_token(j, 9), levels);
+        return pieces::dictionary(tokens, errors, nodes, index, g);
     }
     if kind == Token::FN {
-        return fn_expr(tokens, errors, nodes, p.at_token(j), levels);
+        return fn_expr(tokens, errors, nodes, index, p.at_token(j, 10), levels);
     }
     if kind == Token::THIS {
         return parser::make(
             nodes,
-            p.at_token(j),
+            p.at_token(j, 11),
             pieces::row(Node::THIS, j, 0, 0, 0, 0, 0, 0),
         );
     }
     if kind == Token::SUPER {
-        return pieces::super_expr(tokens, errors, nodes, p.at_token(j), j);
+        return pieces::super_expr(tokens, errors, nodes, index, p.at_token(j, 12), j);
     }
-    if let Seen::At(n) = parser::matches(tokens, at, Token::NEWLINE) {
-        return pieces::empty(nodes, p.at_token(n));
+    let s = p.looked(12);
+    if let Seen::At(i) = parser::matches(tokens, index, at, Token::NEWLINE) {
+        return pieces::empty(nodes, s.at_token(i, 1));
     }
-    pieces::fatal(tokens, errors, p, 28, at)
+    pieces::fatal(tokens, errors, s.looked(1), 28, at)
 }
 
-fn call(tokens: &[u32], errors: &mut [u32], nodes: &mut [u32], p: State, levels: u32) -> Out
-    ensures { λ r. ⌜ reply (r .p) (r .got) (now (errors .exit)) (now (nodes .exit)) ≡ runAt (now (tokens .entry)) levels (specs.call (now (tokens .entry))) p (now (errors .entry)) (now (nodes .entry)) ⌝ }
+fn call(
+    tokens: &[u32],
+    errors: &mut [u32],
+    nodes: &mut [u32],
+    index: &[u32],
+    p: State,
+    levels: u32,
+) -> Out
+    ensures { λ r. ⌜ reply (r .p) (r .got) (now (errors .exit)) (now (nodes .exit)) ≡ runAt (indexed (now (tokens .entry)) (now (index .entry))) levels (specs.call (indexed (now (tokens .entry)) (now (index .entry)))) p (now (errors .entry)) (now (nodes .entry)) ⌝ }
 {
-    let g = primary(tokens, errors, nodes, p, levels);
+    let g = primary(tokens, errors, nodes, index, p, levels);
     let k = g.got;
     let Got::Node(first) = k else {
         return g;
@@ -1026,7 +1208,7 @@ fn call(tokens: &[u32], errors: &mut [u32], nodes: &mut [u32], p: State, levels:
     let mut q = g.p;
     loop {
         let at = q.current;
-        let coming = parser::peek(tokens, at);
+        let coming = parser::peek(tokens, index, at);
         let kind = coming.kind;
         let j = coming.past;
         if kind == Token::LEFT_PAREN {
@@ -1034,11 +1216,12 @@ fn call(tokens: &[u32], errors: &mut [u32], nodes: &mut [u32], p: State, levels:
                 tokens,
                 errors,
                 nodes,
-                q.at_token(j),
+                index,
+                q.at_token(j, 1),
                 levels,
                 Token::RIGHT_PAREN,
             );
-            let h = pieces::finish_call(tokens, errors, nodes, args, e.node);
+            let h = pieces::finish_call(tokens, errors, nodes, index, args, e.node);
             let kh = h.got;
             let Got::Node(n) = kh else {
                 return h;
@@ -1046,7 +1229,7 @@ fn call(tokens: &[u32], errors: &mut [u32], nodes: &mut [u32], p: State, levels:
             e = n;
             q = h.p;
         } else if kind == Token::DOT {
-            let h = pieces::get(tokens, errors, nodes, q.at_token(j), e.node);
+            let h = pieces::get(tokens, errors, nodes, index, q.at_token(j, 2), e.node);
             let kh = h.got;
             let Got::Node(n) = kh else {
                 return h;
@@ -1054,7 +1237,7 @@ fn call(tokens: &[u32], errors: &mut [u32], nodes: &mut [u32], p: State, levels:
             e = n;
             q = h.p;
         } else if kind == Token::LEFT_BRACE {
-            let h = access(tokens, errors, nodes, q.at_token(j), levels, e, j);
+            let h = access(tokens, errors, nodes, index, q.at_token(j, 3), levels, e, j);
             let kh = h.got;
             let Got::Node(n) = kh else {
                 return h;
@@ -1062,24 +1245,32 @@ fn call(tokens: &[u32], errors: &mut [u32], nodes: &mut [u32], p: State, levels:
             e = n;
             q = h.p;
         } else {
-            return pieces::found(q, e);
+            return pieces::found(q.looked(3), e);
         }
     }
 }
 
-fn unary(tokens: &[u32], errors: &mut [u32], nodes: &mut [u32], p: State, levels: u32) -> Out
-    ensures { λ r. ⌜ reply (r .p) (r .got) (now (errors .exit)) (now (nodes .exit)) ≡ runAt (now (tokens .entry)) levels (specs.unary (now (tokens .entry))) p (now (errors .entry)) (now (nodes .entry)) ⌝ }
+fn unary(
+    tokens: &[u32],
+    errors: &mut [u32],
+    nodes: &mut [u32],
+    index: &[u32],
+    p: State,
+    levels: u32,
+) -> Out
+    ensures { λ r. ⌜ reply (r .p) (r .got) (now (errors .exit)) (now (nodes .exit)) ≡ runAt (indexed (now (tokens .entry)) (now (index .entry))) levels (specs.unary (indexed (now (tokens .entry)) (now (index .entry)))) p (now (errors .entry)) (now (nodes .entry)) ⌝ }
 {
     let at = p.current;
-    let coming = parser::peek(tokens, at);
+    let coming = parser::peek(tokens, index, at);
     let kind = coming.kind;
-    if (kind == Token::NOT) | (kind == Token::MINUS) {
+    let n = pieces::prefix_place(kind);
+    if n != 0 {
         let j = coming.past;
-        let q = p.at_token(j);
+        let q = p.at_token(j, n);
         if levels == 0 {
             return parser::stopped(q, Outcome::TOO_DEEP);
         }
-        let g = unary(tokens, errors, nodes, q, levels - 1);
+        let g = unary(tokens, errors, nodes, index, q, levels - 1);
         let k = g.got;
         let Got::Node(e) = k else {
             return g;
@@ -1087,7 +1278,7 @@ fn unary(tokens: &[u32], errors: &mut [u32], nodes: &mut [u32], p: State, levels
         let s = g.p;
         return parser::make(nodes, s, pieces::row(Node::UNARY, j, 0, 0, e.node, 0, 0, 0));
     }
-    call(tokens, errors, nodes, p, levels)
+    call(tokens, errors, nodes, index, p.looked(2), levels)
 }
 
 // `or` to `power`, without the loosest so many levels: the nested loops as one, from the tightest level to the loosest.
@@ -1095,13 +1286,14 @@ fn binary(
     tokens: &[u32],
     errors: &mut [u32],
     nodes: &mut [u32],
+    index: &[u32],
     p: State,
     levels: u32,
     looser: u32,
 ) -> Out
-    ensures { λ r. ⌜ reply (r .p) (r .got) (now (errors .exit)) (now (nodes .exit)) ≡ runAt (now (tokens .entry)) levels (binaryAt (now (tokens .entry)) looser) p (now (errors .entry)) (now (nodes .entry)) ⌝ }
+    ensures { λ r. ⌜ reply (r .p) (r .got) (now (errors .exit)) (now (nodes .exit)) ≡ runAt (indexed (now (tokens .entry)) (now (index .entry))) levels (binaryAt (indexed (now (tokens .entry)) (now (index .entry))) looser) p (now (errors .entry)) (now (nodes .entry)) ⌝ }
 {
-    let g = unary(tokens, errors, nodes, p, levels);
+    let g = unary(tokens, errors, nodes, index, p, levels);
     let k = g.got;
     let Got::Node(first) = k else {
         return g;
@@ -1111,10 +1303,13 @@ fn binary(
     let mut r: u32 = 7;
     loop {
         let at = s.current;
-        let Turn::Takes(rank, j) = operators::turn_at(tokens, at, looser, r) else {
-            return pieces::found(s, left);
+        let tried = operators::turn_at(tokens, index, at, looser, r);
+        let n = tried.looks;
+        let turn = tried.turn;
+        let Turn::Takes(rank, j) = turn else {
+            return pieces::found(s.looked(n), left);
         };
-        let h = binary(tokens, errors, nodes, s.at_token(j), levels, rank);
+        let h = binary(tokens, errors, nodes, index, s.at_token(j, n), levels, rank);
         let kh = h.got;
         let Got::Node(right) = kh else {
             return h;
@@ -1136,23 +1331,33 @@ fn binary(
 }
 
 // `assignment`: the value is read before the left side is judged. It opens a level.
-fn assignment(tokens: &[u32], errors: &mut [u32], nodes: &mut [u32], p: State, levels: u32) -> Out
-    ensures { λ r. ⌜ reply (r .p) (r .got) (now (errors .exit)) (now (nodes .exit)) ≡ lower (now (tokens .entry)) levels Assignment p (now (errors .entry)) (now (nodes .entry)) ⌝ }
+fn assignment(
+    tokens: &[u32],
+    errors: &mut [u32],
+    nodes: &mut [u32],
+    index: &[u32],
+    p: State,
+    levels: u32,
+) -> Out
+    ensures { λ r. ⌜ reply (r .p) (r .got) (now (errors .exit)) (now (nodes .exit)) ≡ lower (indexed (now (tokens .entry)) (now (index .entry))) levels Assignment p (now (errors .entry)) (now (nodes .entry)) ⌝ }
 {
     if levels == 0 {
         return parser::stopped(p, Outcome::TOO_DEEP);
     }
-    let g = binary(tokens, errors, nodes, p, levels - 1, 0);
+    let g = binary(tokens, errors, nodes, index, p, levels - 1, 0);
     let k = g.got;
     let Got::Node(left) = k else {
         return g;
     };
     let q = g.p;
     let at = q.current;
-    let Seen::At(i) = parser::matches(tokens, at, Token::EQUAL) else {
-        return g;
+    let Seen::At(i) = parser::matches(tokens, index, at, Token::EQUAL) else {
+        return Out {
+            p: q.looked(1),
+            got: k,
+        };
     };
-    let h = assignment(tokens, errors, nodes, q.at_token(i), levels - 1);
+    let h = assignment(tokens, errors, nodes, index, q.at_token(i, 1), levels - 1);
     let k = h.got;
     let Got::Node(value) = k else {
         return h;

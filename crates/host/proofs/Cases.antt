@@ -6,7 +6,7 @@ use Prim.Native.Nat.{ℕ, zero, suc, _-_}
 use native.Mathlib.Omega.{arith}
 use lib.Dec.{leb, ltb}
 use borrow.Author.Tests.{eq-eqb, ne-eqb}
-use Rattle.records.specs.Table.{room, tokenWidth, errorWidth, nodeWidth}
+use Rattle.records.specs.Table.{room, tokenWidth, errorWidth, nodeWidth, indexWidth}
 use Rattle.parser.specs.Tokens.{kindAt}
 use Rattle.host.specs.declared.Parser.{Parser}
 use Rattle.host.specs.Fits.{noEof, onlyEof, within, fitsIn}
@@ -46,20 +46,20 @@ pub one-before : (n : ℕ) → (n ≡ 0 → ⊥) → n ≡ suc (n - 1)
 one-before zero z = elim (z refl) [ ]
 one-before (suc k) z = omega arith
 
--- the code tests the six in one expression
-abbrev tested : Parser → ℕ → ℕ → ℕ → Bool
-tested p t e n = ((((leb (p .tokens) t && leb (p .errors) e) && leb (p .nodes) n) && leb (p .last) n) && ltb (p .current) (p .tokens)) && leb (p .loops) (p .tokens)
+-- the code tests the seven in one expression
+abbrev tested : Parser → ℕ → ℕ → ℕ → ℕ → Bool
+tested p t e n x = (((((leb (p .tokens) t && leb (p .errors) e) && leb (p .nodes) n) && leb (p .last) n) && leb (p .tokens) x) && ltb (p .current) (p .tokens)) && leb (p .loops) (p .tokens)
 
-module _ (T E N : List ℕ) (p : Parser) (t e n : ℕ) (is-t : t ≡ room tokenWidth T) (is-e : e ≡ room errorWidth E) (is-n : n ≡ room nodeWidth N) where
-  tested-within : tested p t e n ≡ within T E N p
-  tested-within = λ i. tested p (is-t i) (is-e i) (is-n i)
+module _ (T E N X : List ℕ) (p : Parser) (t e n x : ℕ) (is-t : t ≡ room tokenWidth T) (is-e : e ≡ room errorWidth E) (is-n : n ≡ room nodeWidth N) (is-x : x ≡ room indexWidth X) where
+  tested-within : tested p t e n x ≡ within T E N X p
+  tested-within = λ i. tested p (is-t i) (is-e i) (is-n i) (is-x i)
 
   -- it holds, and the tokens decide
-  pub fits-decides : tested p t e n ≡ true → onlyEof T (p .tokens) ≡ fitsIn T E N p
+  pub fits-decides : tested p t e n x ≡ true → onlyEof T (p .tokens) ≡ fitsIn T E N X p
   unfolding fitsIn
   fits-decides h = ap (λ (b : Bool). b && onlyEof T (p .tokens)) (sym h ∙ tested-within)
 
   -- it fails
-  pub fits-fails : tested p t e n ≡ false → false ≡ fitsIn T E N p
+  pub fits-fails : tested p t e n x ≡ false → false ≡ fitsIn T E N X p
   unfolding fitsIn
   fits-fails h = ap (λ (b : Bool). b && onlyEof T (p .tokens)) (sym h ∙ tested-within)

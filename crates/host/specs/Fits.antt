@@ -4,7 +4,7 @@ use mathlib.Core.Bool.{Bool, true, false, not, _&&_}
 use mathlib.Core.List.{List}
 use lib.Dec.{eqb, leb, ltb}
 use Rattle.token.specs.Kind.{EOF}
-use Rattle.records.specs.Table.{room, tokenWidth, errorWidth, nodeWidth}
+use Rattle.records.specs.Table.{room, tokenWidth, errorWidth, nodeWidth, indexWidth}
 use Rattle.parser.specs.Tokens.{kindAt}
 use Rattle.host.specs.declared.Parser.{Parser}
 
@@ -18,12 +18,12 @@ unfoldable pub onlyEof : List ℕ → ℕ → Bool
 onlyEof T zero = false
 onlyEof T (suc k) = eqb (kindAt T k) EOF && noEof T k
 
--- the counts and the last statement fit the tables, the cursor is below the token count, and the loop count is not over it
-abbrev pub within : List ℕ → List ℕ → List ℕ → Parser → Bool
-within T E N p =
+-- the counts and the last statement fit the tables, the token count fits the index too, the cursor is below the token count, and the loop count is not over it
+abbrev pub within : List ℕ → List ℕ → List ℕ → List ℕ → Parser → Bool
+within T E N X p =
     leb (p .tokens) (room tokenWidth T) && leb (p .errors) (room errorWidth E) && leb (p .nodes) (room nodeWidth N) && leb (p .last) (room nodeWidth N)
-    && ltb (p .current) (p .tokens) && leb (p .loops) (p .tokens)
+    && leb (p .tokens) (room indexWidth X) && ltb (p .current) (p .tokens) && leb (p .loops) (p .tokens)
 
 -- a read goes on exactly if this holds: all that, and the last token is the only EOF; else it answers 18
-unfoldable pub fitsIn : List ℕ → List ℕ → List ℕ → Parser → Bool
-fitsIn T E N p = within T E N p && onlyEof T (p .tokens)
+unfoldable pub fitsIn : List ℕ → List ℕ → List ℕ → List ℕ → Parser → Bool
+fitsIn T E N X p = within T E N X p && onlyEof T (p .tokens)

@@ -2,17 +2,17 @@
 use Prim.Native.Nat.{ℕ}
 use Rattle.records.specs.Outcomes as outcomes
 use Rattle.parser.specs.declared.State.{State}
-use Rattle.parser.specs.Tables.{withErrors, freshState}
+use Rattle.parser.specs.Tables.{freshState}
 use Rattle.parser.specs.Grammar.{firstOf}
 use Rattle.host.specs.declared.Parser.{Parser}
 
 -- the state in which it reads
 abbrev pub stateOf : Parser → State
-stateOf p = record { rule = p .rule; current = p .current; errors = p .errors; nodes = p .nodes; loops = p .loops }
+stateOf p = record { rule = p .rule; current = p .current; errors = p .errors; nodes = p .nodes; loops = p .loops; looks = p .looks }
 
 -- with so many tokens, that state, first and last statement and mark
 abbrev pub changed : Parser → ℕ → State → ℕ → ℕ → ℕ → ℕ → Parser
-changed p tokens q first last ended outcome = record { rule = p .rule; way = p .way; current = q .current; loops = q .loops; tokens = tokens; errors = q .errors; nodes = q .nodes; first = first; last = last; ended = ended; outcome = outcome }
+changed p tokens q first last ended outcome = record { rule = p .rule; way = p .way; current = q .current; loops = q .loops; tokens = tokens; errors = q .errors; nodes = q .nodes; first = first; last = last; ended = ended; outcome = outcome; looks = q .looks }
 
 -- before the first statement, with what was lexed
 abbrev pub fresh : Parser → ℕ → ℕ → Parser
@@ -26,6 +26,10 @@ markedAs ended outcome p = changed p (p .tokens) (stateOf p) (p .first) (p .last
 abbrev pub behind : Parser → State → ℕ → Parser
 behind p q n = changed p (p .tokens) q (firstOf (p .first) n) n (p .ended) (p .outcome)
 
--- at a statement that stopped the reading: none of its nodes is kept, but its errors are
-abbrev pub stoppedAt : Parser → ℕ → Parser
-stoppedAt p errors = changed p (p .tokens) (withErrors (stateOf p) errors) (p .first) (p .last) (p .ended) (p .outcome)
+-- its state where a statement stopped the reading in the state q: none of its nodes is kept, but its errors are, and its looks count
+abbrev pub stoppedIn : Parser → State → State
+stoppedIn p q = record { rule = p .rule; current = p .current; errors = q .errors; nodes = p .nodes; loops = p .loops; looks = q .looks }
+
+-- there
+abbrev pub stoppedAt : Parser → State → Parser
+stoppedAt p q = changed p (p .tokens) (stoppedIn p q) (p .first) (p .last) (p .ended) (p .outcome)

@@ -9,7 +9,7 @@ use records::Outcome;
 use token::Token;
 
 // What the host keeps between two calls: the cursor, the open loops, how many tokens, errors and nodes stand in the tables, the first and the last
-// statement, and the last outcome; `ended` is 0 until that is the final answer. The rule and the way are the host's: they are set before `begin`, and no call
+// statement, the last outcome, and the looks so far; `ended` is 0 until the outcome is the final answer. The rule and the way are the host's: they are set before `begin`, and no call
 // changes them. A parser of zeros is one that nothing was begun with: a read answers 18.
 #[repr(C)]
 pub struct Parser {
@@ -24,6 +24,7 @@ pub struct Parser {
     pub last: u32,
     pub ended: u32,
     pub outcome: u32,
+    pub looks: u32,
 }
 
 // A word of the host's is only carried along, and named by no function here.
@@ -39,6 +40,7 @@ impl Parser {
         self.nodes = 0;
         self.first = 0;
         self.last = 0;
+        self.looks = 0;
         self.going_on()
     }
 
@@ -77,14 +79,16 @@ impl Parser {
         self.nodes = s.nodes;
         self.first = parser::first_of(self.first, statement);
         self.last = statement;
+        self.looks = s.looks;
         self
     }
 
-    // At a statement that stopped the reading: none of its nodes is kept, but its errors are.
-    pub fn stopped(mut self, errors: u32) -> Self
-        ensures { λ r. ⌜ r ≡ stoppedAt self errors ⌝ }
+    // At a statement that stopped the reading in this state: none of its nodes is kept, but its errors are, and its looks count.
+    pub fn stopped(mut self, s: State) -> Self
+        ensures { λ r. ⌜ r ≡ stoppedAt self s ⌝ }
     {
-        self.errors = errors;
+        self.errors = s.errors;
+        self.looks = s.looks;
         self
     }
 }
@@ -118,16 +122,18 @@ pub fn only_eof(tokens: &[u32], n: u32) -> bool
 }
 
 // Whether a read can go on with what it is lent. The tokens are looked at only where their count fits the table.
-pub fn fits(tokens: &[u32], errors: &[u32], nodes: &[u32], p: Parser) -> bool
-    ensures { λ r. ⌜ r ≡ fitsIn (now (tokens .entry)) (now (errors .entry)) (now (nodes .entry)) p ⌝ }
+pub fn fits(tokens: &[u32], errors: &[u32], nodes: &[u32], index: &[u32], p: Parser) -> bool
+    ensures { λ r. ⌜ r ≡ fitsIn (now (tokens .entry)) (now (errors .entry)) (now (nodes .entry)) (now (index .entry)) p ⌝ }
 {
     let t = records::token_room(tokens);
     let e = records::error_room(errors);
     let n = records::node_room(nodes);
+    let x = records::index_room(index);
     if (p.tokens <= t)
         & (p.errors <= e)
         & (p.nodes <= n)
         & (p.last <= n)
+        & (p.tokens <= x)
         & (p.current < p.tokens)
         & (p.loops <= p.tokens)
     {

@@ -1,9 +1,11 @@
 // The binary operators, `or` to `power`, as far as no reader is called: their levels, what a turn of the readers' one loop does, and the row of an operation.
 ghost use mathlib.Core.Path.{_≡_};
 ghost use lib.Dec.{leb};
+ghost use Rattle.parser.specs.Tokens.{indexed};
 ghost use Rattle.parser.specs.Nodes as rows;
 ghost use Rattle.parser.specs.Grammar.{levels, rowIf};
-ghost use Rattle.operators.specs.Operators.{rankIn, turnAt};
+ghost use Prim.Native.Nat.{_-_};
+ghost use Rattle.operators.specs.Operators.{rankIn, testsOf, behindIn, turnAt};
 use records::Node;
 use token::Token;
 
@@ -11,6 +13,12 @@ use token::Token;
 pub enum Turn {
     Over,
     Takes(u32, u32),
+}
+
+// A turn, and how often the Rust's nested loops call `check` for it.
+pub struct Tried {
+    pub turn: Turn,
+    pub looks: u32,
 }
 
 // The level of a binary operator, loosest 1 to tightest 7; 0 for any other kind.
@@ -36,20 +44,75 @@ pub fn rank_of(kind: u32) -> u32
     }
 }
 
-// The turn at a token, where the levels tighter than `looser` are read and the last turn left those up to `tightest` open.
-pub fn turn_at(tokens: &[u32], at: u32, looser: u32, tightest: u32) -> Turn
-    ensures { λ r. ⌜ r ≡ turnAt (now (tokens .entry)) at looser tightest ⌝ }
+// How many operators the loosest so many levels have: the tests that are made where none is found.
+fn tests_of(level: u32) -> u32
+    ensures { λ r. ⌜ r ≡ testsOf levels level ⌝ }
 {
-    let coming = parser::peek(tokens, at);
+    match level {
+        0 => 0,
+        1 => 1,
+        2 => 2,
+        3 => 4,
+        4 => 8,
+        5 => 10,
+        6 => 13,
+        _ => 14,
+    }
+}
+
+// How many of the tests come behind the one that finds this operator, the tightest level's first; 0 for any other kind.
+fn behind_of(kind: u32) -> u32
+    ensures { λ r. ⌜ r ≡ behindIn 0 levels kind ⌝ }
+{
+    match kind {
+        Token::OR => 0,
+        Token::AND => 1,
+        Token::EQUAL_EQUAL => 3,
+        Token::BANG_EQUAL => 2,
+        Token::GREATER => 7,
+        Token::GREATER_EQUAL => 6,
+        Token::LESS => 5,
+        Token::LESS_EQUAL => 4,
+        Token::PLUS => 9,
+        Token::MINUS => 8,
+        Token::SLASH => 12,
+        Token::MOD => 11,
+        Token::STAR => 10,
+        Token::POWER => 13,
+        _ => 0,
+    }
+}
+
+// The tests that are made, of so many, where those behind are not.
+fn without(tests: u32, behind: u32) -> u32
+    ensures { λ r. ⌜ r ≡ tests - behind ⌝ }
+{
+    if tests < behind {
+        return 0;
+    }
+    tests - behind
+}
+
+// The turn at a token, where the levels tighter than `looser` are read and the last turn left those up to `tightest` open.
+pub fn turn_at(tokens: &[u32], index: &[u32], at: u32, looser: u32, tightest: u32) -> Tried
+    ensures { λ r. ⌜ r ≡ turnAt (indexed (now (tokens .entry)) (now (index .entry))) at looser tightest ⌝ }
+{
+    let coming = parser::peek(tokens, index, at);
     let kind = coming.kind;
     let rank = rank_of(kind);
-    if rank <= looser {
-        return Turn::Over;
+    let open = tests_of(tightest);
+    if (looser < rank) & (rank <= tightest) {
+        let behind = behind_of(kind);
+        return Tried {
+            turn: Turn::Takes(rank, coming.past),
+            looks: without(open, behind),
+        };
     }
-    if tightest < rank {
-        return Turn::Over;
+    let behind = tests_of(looser);
+    Tried {
+        turn: Turn::Over,
+        looks: without(open, behind),
     }
-    Turn::Takes(rank, coming.past)
 }
 
 // `and` and `or` make a Logical, the others a Binary.

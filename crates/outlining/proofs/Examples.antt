@@ -25,7 +25,7 @@ token-line = refl
 
 -- an answer, one token, one error and no node
 whole-text :
-    textOf (record { outcome = 5; tokenCount = 1; errorCount = 1; nodeCount = 0; first = 0; tokens = 25 ∷ 1 ∷ 1 ∷ 1 ∷ 0 ∷ 0 ∷ 0 ∷ 1 ∷ []; errors = 1 ∷ 1 ∷ 0 ∷ []; nodes = 0 ∷ 0 ∷ [] })
+    textOf (record { outcome = 5; tokenCount = 1; errorCount = 1; nodeCount = 0; first = 0; looks = 7; tokens = 25 ∷ 1 ∷ 1 ∷ 1 ∷ 0 ∷ 0 ∷ 0 ∷ 1 ∷ []; errors = 1 ∷ 1 ∷ 0 ∷ []; nodes = 0 ∷ 0 ∷ []; index = [] })
     ≡ codes "o 5 1 1 0 0\nt 25 1 1 1 1\ne 1 1 0\n"
 unfolding textOf linesOf fields decimal
 whole-text = refl

@@ -8,7 +8,7 @@ use native.Mathlib.Omega.{arith}
 use lib.Dec.{ltb}
 use lib.ListN.{length, getD, take, drop, replicate, length-append, length-replicate}
 use lib.Seq.{take-all}
-use Rattle.records.specs.Table.{room, tokenWidth, errorWidth, nodeWidth}
+use Rattle.records.specs.Table.{room, tokenWidth, errorWidth, nodeWidth, indexWidth}
 use Rattle.rules.specs.Rules.{one}
 use Rattle.entry.specs.Ways.{goOn}
 use Rattle.entry.specs.Reading.{Reading}
@@ -79,7 +79,7 @@ outline-fits s = at (ltb 4096 (length s))
     at true = let h = line-fits 111 (4 ∷ 0 ∷ 0 ∷ 0 ∷ 0 ∷ []) 0 (0 ∷ 1 ∷ 2 ∷ 3 ∷ 4 ∷ []) in omega arith
     at false =
         let r = readWithin s in
-        let w = reading-rooms one goOn s (replicate (tokenWidth * 2048) 0) (replicate (errorWidth * 256) 0) (replicate (nodeWidth * 1600) 0) in
+        let w = reading-rooms one goOn s (replicate (tokenWidth * 2048) 0) (replicate (errorWidth * 256) 0) (replicate (nodeWidth * 1600) 0) (replicate (indexWidth * 2048) 0) in
         let h = text-fits r in
         let a : r .tokenCount ≤ 2048 = subst (λ (m : ℕ). r .tokenCount ≤ m) (words-room tokenWidth (tokenWidth * 2048) 2048 refl) (w .tokens-fit) in
         let b : r .errorCount ≤ 256 = subst (λ (m : ℕ). r .errorCount ≤ m) (words-room errorWidth (errorWidth * 256) 256 refl) (w .errors-fit) in

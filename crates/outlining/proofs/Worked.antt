@@ -9,8 +9,9 @@ use Rattle.text.specs.Text.{isText}
 use Rattle.records.specs.Table.{put, field, linked, zeroed}
 use Rattle.items.specs.Items.{signOf}
 use Rattle.lexer.specs.Lex.{lexed, lexedOf}
-use Rattle.parser.specs.Tokens.{kindAt, lineAt, after, skipFrom, skipLines, seenIf, checkAt, matchesAt}
-use Rattle.parser.specs.Tables.{pushNode, pushError, consumeAt, requireAt}
+use Rattle.lines.specs.Lines.{lineWord, lineWords, lineIndex}
+use Rattle.parser.specs.Tokens.{kindAt, lineAt, after, linesFrom, skipLines, seenIf, checkAt, matchesAt}
+use Rattle.parser.specs.Tables.{countedBy, pushNode, pushError, consumeAt, requireAt}
 use Rattle.parser.specs.Programs.{run, raised}
 use Rattle.parser.specs.Grammar.{firstOf, blockFrom, block, expressionStmt, parametersFrom, parameters, functionBody, fnStmt, fnExpr, methodsFrom, class, letStmt, namesFrom, enhancedFor, classicFor, forLoop, tryCatch, elifsFrom, elseFrom, ifStmt, ret, brk, cont, whileStmt, statement, declaration, argumentsFrom, arguments, list, dictElementsFrom, dictionary, closed, access, superExpr, primary, finishCall, callFrom, call, unary, lookMany, binaryFrom, binary, assignment, body, lower}
 use Rattle.parser.specs.Whole.{topLevel, statements, parsed}
@@ -40,5 +41,5 @@ expected [] = []
 expected (outlined s t ∷ xs) = codes t ∷ expected xs
 
 worked : prints scripts ≡ expected scripts
-unfolding reading lexedOf lexed isText keywordOf signOf div ofInt toBits put field linked zeroed kindAt lineAt after skipFrom skipLines seenIf checkAt matchesAt pushNode pushError consumeAt requireAt run raised firstOf blockFrom block expressionStmt parametersFrom parameters functionBody fnStmt fnExpr methodsFrom class letStmt namesFrom enhancedFor classicFor forLoop tryCatch elifsFrom elseFrom ifStmt ret brk cont whileStmt statement declaration argumentsFrom arguments list dictElementsFrom dictionary closed access superExpr primary finishCall callFrom call unary lookMany binaryFrom binary assignment body lower topLevel statements parsed outlineOf textOf linesOf fields decimal
+unfolding reading lexedOf lexed isText keywordOf signOf div ofInt toBits put field linked zeroed kindAt lineAt after linesFrom skipLines lineWord lineWords lineIndex countedBy seenIf checkAt matchesAt pushNode pushError consumeAt requireAt run raised firstOf blockFrom block expressionStmt parametersFrom parameters functionBody fnStmt fnExpr methodsFrom class letStmt namesFrom enhancedFor classicFor forLoop tryCatch elifsFrom elseFrom ifStmt ret brk cont whileStmt statement declaration argumentsFrom arguments list dictElementsFrom dictionary closed access superExpr primary finishCall callFrom call unary lookMany binaryFrom binary assignment body lower topLevel statements parsed outlineOf textOf linesOf fields decimal
 worked = refl

@@ -1,20 +1,15 @@
 -- Laws of looking at tokens, in the form that the code's facts have. Assumes nothing.
-use mathlib.Core.Path.{_≡_, refl, ap}
+use mathlib.Core.Path.{_≡_, refl, sym, ap, _∙_}
 use mathlib.Core.Bool.{Bool, true, false}
-use mathlib.Core.List.{List, [], _∷_}
-use Prim.Native.Nat.{ℕ, zero, suc, _+_, _-_, _<_}
+use mathlib.Core.List.{List}
+use Prim.Native.Nat.{ℕ, zero, suc, _+_, _-_, _≤_, _<_}
 use native.Mathlib.Omega.{arith}
 use borrow.Author.Tests.{eq-eqb, ne-eqb, ltb-true, ltb-false}
 use lib.Dec.{ltb}
-use Rattle.records.specs.Table.{tokenWidth}
+use Rattle.records.specs.Table.{field, tokenWidth, indexWidth}
 use Rattle.records.proofs.Field.{field-none}
-use Rattle.parser.specs.declared.Seen.{Seen}
 use Rattle.parser.specs.declared.Seen.the-variants.{At, Nothing}
-use Rattle.parser.specs.declared.State.{State}
-use Rattle.parser.specs.Tables.{moved, ifSeen}
-use Rattle.parser.specs.Programs.{Which, Reader, Prog, run}
-use Rattle.parser.specs.Grammar.{lookMany}
-use Rattle.parser.specs.Tokens.{count, kindAt, after, skipFrom, skipLines, seenIf, checkAt, matchesAt, orNext, matchesMany}
+use Rattle.parser.specs.Tokens.{View, count, kindAt, after, indexed, skipLines, seenIf, checkAt}
 
 pub after-in : (T : List ℕ) (i : ℕ) → (kindAt T i ≡ 0 → ⊥) → i + 1 ≡ after T i
 unfolding after
@@ -41,47 +36,36 @@ kind-some T i h = go (kindAt T i) refl
     go zero e = absurd (h e)
     go (suc k) e = kind-inside T i k e
 
-pub skip-more : (T : List ℕ) (i : ℕ) → kindAt T i ≡ 1 → skipLines T (i + 1) ≡ skipLines T i
-unfolding skipLines skipFrom
-skip-more T i e =
-    let h : i < count T = kind-inside T i 0 e in
-    let s : count T - i ≡ suc (count T - (i + 1)) = omega arith in
-    rw (s, eq-eqb _ _ e, skipFrom)
+-- a token that is no Newline is not passed
+pub skip-end : (T : View) (i : ℕ) → (kindAt (T .tokens) i ≡ 1 → ⊥) → i ≡ skipLines T i
+unfolding skipLines
+skip-end T i e = sym (rw (ne-eqb _ _ e, skipLines))
 
-pub skip-end : (T : List ℕ) (i : ℕ) → (kindAt T i ≡ 1 → ⊥) → i ≡ skipLines T i
-unfolding skipLines skipFrom
-skip-end T i e = go (count T - i)
-  where
-    go : (n : ℕ) → i ≡ skipFrom n T i
-    go zero = refl
-    go (suc n) = rw (ne-eqb _ _ e, skipFrom)
+-- from a Newline the view's hop leads on
+pub skip-hop : (T : View) (i : ℕ) → kindAt (T .tokens) i ≡ 1 → i + T .hop i ≡ skipLines T i
+unfolding skipLines
+skip-hop T i e = sym (rw (eq-eqb _ _ e, skipLines))
 
-pub check-line : (T : List ℕ) (at k : ℕ) → k ≡ 1 → kindAt T at ≡ 1 → At at ≡ checkAt T at k
+-- with an index: to the token that the word names; and nowhere where that is one before
+module _ (t x : List ℕ) (i w : ℕ) (k : kindAt t i ≡ 1) (is : w ≡ field indexWidth 0 x i) where
+  pub skip-word : i < w → w - 1 ≡ skipLines (indexed t x) i
+  skip-word h = let e : w - 1 ≡ i + (w - 1 - i) = omega arith in e ∙ ap (λ (w : ℕ). i + (w - 1 - i)) is ∙ skip-hop (indexed t x) i k
+
+  pub skip-stays : w ≤ i → i ≡ skipLines (indexed t x) i
+  skip-stays h = let e : i ≡ i + (w - 1 - i) = omega arith in e ∙ ap (λ (w : ℕ). i + (w - 1 - i)) is ∙ skip-hop (indexed t x) i k
+
+pub check-line : (T : View) (at k : ℕ) → k ≡ 1 → kindAt (T .tokens) at ≡ 1 → At at ≡ checkAt T at k
 unfolding checkAt seenIf
 check-line T at k e h = rw (eq-eqb _ _ e, eq-eqb _ _ h, checkAt)
 
-pub check-no-line : (T : List ℕ) (at k : ℕ) → k ≡ 1 → (kindAt T at ≡ 1 → ⊥) → Nothing ≡ checkAt T at k
+pub check-no-line : (T : View) (at k : ℕ) → k ≡ 1 → (kindAt (T .tokens) at ≡ 1 → ⊥) → Nothing ≡ checkAt T at k
 unfolding checkAt seenIf
 check-no-line T at k e h = rw (eq-eqb _ _ e, ne-eqb _ _ h, checkAt)
 
-pub check-found : (T : List ℕ) (at k i : ℕ) → i ≡ skipLines T at → (k ≡ 1 → ⊥) → kindAt T (skipLines T at) ≡ k → At i ≡ checkAt T at k
+pub check-found : (T : View) (at k i : ℕ) → i ≡ skipLines T at → (k ≡ 1 → ⊥) → kindAt (T .tokens) (skipLines T at) ≡ k → At i ≡ checkAt T at k
 unfolding checkAt seenIf
 check-found T at k i s e h = rw (ne-eqb _ _ e, eq-eqb _ _ h, checkAt) (ap At s)
 
-pub check-none : (T : List ℕ) (at k : ℕ) → (k ≡ 1 → ⊥) → (kindAt T (skipLines T at) ≡ k → ⊥) → Nothing ≡ checkAt T at k
+pub check-none : (T : View) (at k : ℕ) → (k ≡ 1 → ⊥) → (kindAt (T .tokens) (skipLines T at) ≡ k → ⊥) → Nothing ≡ checkAt T at k
 unfolding checkAt seenIf
 check-none T at k e h = rw (ne-eqb _ _ e, ne-eqb _ _ h, checkAt)
-
--- what `lookMany` does is decided by `matches_many`
-pub run-many : (T : List ℕ) (low : Which → Reader) (ks : List ℕ) (found : ℕ → Prog) (missing : Prog) (p : State) (E N : List ℕ) →
-    run T low (lookMany T ks found missing) p E N ≡ ifSeen (matchesMany T (p .current) ks) (λ i. run T low (found i) (moved p i) E N) λ _. run T low missing p E N
-unfolding run lookMany matchesMany
-run-many T low [] found missing p E N = refl
-run-many T low (k ∷ ks) found missing p E N = go (matchesAt T (p .current) k) (run-many T low ks found missing p E N)
-  where
-    go : (s : Seen) →
-        run T low (lookMany T ks found missing) p E N ≡ ifSeen (matchesMany T (p .current) ks) (λ i. run T low (found i) (moved p i) E N) (λ _. run T low missing p E N) →
-        ifSeen s (λ i. run T low (found i) (moved p i) E N) (λ _. run T low (lookMany T ks found missing) p E N) ≡
-        ifSeen (orNext s (matchesMany T (p .current) ks)) (λ i. run T low (found i) (moved p i) E N) λ _. run T low missing p E N
-    go (At j) e = refl
-    go Nothing e = e

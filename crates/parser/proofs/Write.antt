@@ -2,7 +2,7 @@
 use mathlib.Core.Path.{_≡_, refl, sym, ap, _∙_}
 use mathlib.Core.Bool.{Bool, true, false}
 use mathlib.Core.List.{List}
-use Prim.Native.Nat.{ℕ, zero, suc, _+_, _/_, _≤_, _<_}
+use Prim.Native.Nat.{ℕ, zero, suc, _+_, _-_, _/_, _≤_, _<_}
 use native.Mathlib.Omega.{arith}
 use native.Mathlib.Nat.{min-le-right, le-trans}
 use borrow.Author.Tests.{ltb-true, ltb-false, lt-ltb, le-ltb}
@@ -20,8 +20,8 @@ use Rattle.parser.specs.declared.Got.{Got}
 use Rattle.parser.specs.declared.Got.the-variants.{Node, Stop}
 use Rattle.parser.specs.declared.Seen.{Seen}
 use Rattle.parser.specs.declared.Seen.the-variants.{At, Nothing}
-use Rattle.parser.specs.Tokens.{matchesAt}
-use Rattle.parser.specs.Tables.{Reply, reply, moved, withNode, withError, errorAt, plain, errorMade, pushNode, pushError, andThen, consumeAt, requireAt}
+use Rattle.parser.specs.Tokens.{View, matchesAt}
+use Rattle.parser.specs.Tables.{Reply, reply, moved, countedBy, looked, withNode, withError, errorAt, plain, errorMade, pushNode, pushError, andThen, consumeAt, requireAt}
 use Rattle.parser.specs.Programs.{raised}
 use Rattle.parser.specs.Grammar.{firstOf}
 
@@ -68,6 +68,25 @@ module _ (T : List ℕ) (message i : ℕ) (d : InterpreterError) (p : State) (E 
       ∙ ap (λ (x : List ℕ). reply p (Stop 6) x N) (h .table ∙ put-none errorWidth E (p .errors) _ (ltb-false _ _ r))
       ∙ sym (rw (r, pushError))
 
+-- ---- looks
+pub counted-more : (n looks : ℕ) → n ≤ 4294967295 - looks → looks + n ≡ countedBy n looks
+unfolding countedBy
+counted-more n looks h = omega arith
+
+pub counted-full : (n looks : ℕ) → 4294967295 - looks < n → looks + (4294967295 - looks) ≡ countedBy n looks
+unfolding countedBy
+counted-full n looks h = omega arith
+
+-- looks one after the other are as many at once
+pub looked-more : (p : State) (m n : ℕ) → looked (looked p m) n ≡ looked p (m + n)
+unfolding countedBy
+looked-more p m n = let e : countedBy n (countedBy m (p .looks)) ≡ countedBy (m + n) (p .looks) = omega arith in ap (λ (x : ℕ). record { rule = p .rule; current = p .current; errors = p .errors; nodes = p .nodes; loops = p .loops; looks = x }) e
+
+-- and none at all change nothing
+pub looked-none : (p : State) → looked p 0 ≡ p
+unfolding countedBy
+looked-none p = let e : countedBy 0 (p .looks) ≡ p .looks = omega arith in ap (λ (x : ℕ). record { rule = p .rule; current = p .current; errors = p .errors; nodes = p .nodes; loops = p .loops; looks = x }) e
+
 -- ---- loops
 pub raised-more : (n : ℕ) → n < 4294967295 → n + 1 ≡ raised n
 unfolding raised
@@ -78,32 +97,32 @@ unfolding raised
 raised-full n h = sym (rw (le-ltb _ _ h, raised))
 
 -- ---- a token that is passed, or whose absence is an error
-module _ (T : List ℕ) (kind message : ℕ) (p : State) (s : Seen) (h : s ≡ matchesAt T (p .current) kind) where
-  pub consume-found : (i : ℕ) (E N : List ℕ) (o : Out) (q : State) → s ≡ At i → q ≡ moved p i → o ≡ record { p = q; got = Node (plain i) } → reply (o .p) (o .got) E N ≡ consumeAt T kind message p E N
+module _ (T : View) (kind message : ℕ) (p : State) (s : Seen) (h : s ≡ matchesAt T (p .current) kind) where
+  pub consume-found : (i : ℕ) (E N : List ℕ) (o : Out) (q : State) → s ≡ At i → q ≡ moved (looked p 1) i → o ≡ record { p = q; got = Node (plain i) } → reply (o .p) (o .got) E N ≡ consumeAt T kind message p E N
   unfolding consumeAt
   consume-found i E N o q f g e =
       let m : matchesAt T (p .current) kind ≡ At i = sym h ∙ f in
       ap (λ (x : Out). reply (x .p) (x .got) E N) e ∙ ap (λ (x : State). reply x (Node (plain i)) E N) g ∙ sym (rw (m, consumeAt))
 
-  pub consume-missing : (E N : List ℕ) (r : Reply) → s ≡ Nothing → r ≡ pushError T message (p .current) p E N → r ≡ consumeAt T kind message p E N
+  pub consume-missing : (E N : List ℕ) (r : Reply) (q : State) → s ≡ Nothing → q ≡ looked p 1 → r ≡ pushError (T .tokens) message (p .current) q E N → r ≡ consumeAt T kind message p E N
   unfolding consumeAt
-  consume-missing E N r f e =
+  consume-missing E N r q f l e =
       let m : matchesAt T (p .current) kind ≡ Nothing = sym h ∙ f in
-      e ∙ sym (rw (m, consumeAt))
+      e ∙ ap (λ (x : State). pushError (T .tokens) message (p .current) x E N) l ∙ sym (rw (m, consumeAt))
 
-  pub require-found : (i : ℕ) (E N : List ℕ) (o : Out) (q : State) → s ≡ At i → q ≡ moved p i → o ≡ record { p = q; got = Node (plain i) } → reply (o .p) (o .got) E N ≡ requireAt T kind message p E N
+  pub require-found : (i : ℕ) (E N : List ℕ) (o : Out) (q : State) → s ≡ At i → q ≡ moved (looked p 1) i → o ≡ record { p = q; got = Node (plain i) } → reply (o .p) (o .got) E N ≡ requireAt T kind message p E N
   unfolding requireAt
   require-found i E N o q f g e =
       let m : matchesAt T (p .current) kind ≡ At i = sym h ∙ f in
       ap (λ (x : Out). reply (x .p) (x .got) E N) e ∙ ap (λ (x : State). reply x (Node (plain i)) E N) g ∙ sym (rw (m, requireAt))
 
-  module _ (E E′ N : List ℕ) (g : Out) (f : s ≡ Nothing) (e : reply (g .p) (g .got) E′ N ≡ pushError T message (p .current) p E N) where
+  module _ (E E′ N : List ℕ) (g : Out) (q : State) (f : s ≡ Nothing) (l : q ≡ looked p 1) (e : reply (g .p) (g .got) E′ N ≡ pushError (T .tokens) message (p .current) q E N) where
     stops : requireAt T kind message p E N ≡ andThen (reply (g .p) (g .got) E′ N) λ x q E N. reply q (Stop 1) E N
     unfolding requireAt
     stops =
         let m : matchesAt T (p .current) kind ≡ Nothing = sym h ∙ f in
-        let r : requireAt T kind message p E N ≡ andThen (pushError T message (p .current) p E N) (λ x q E N. reply q (Stop 1) E N) = rw (m, requireAt) in
-        r ∙ ap (λ (x : Reply). andThen x λ x q E N. reply q (Stop 1) E N) (sym e)
+        let r : requireAt T kind message p E N ≡ andThen (pushError (T .tokens) message (p .current) (looked p 1) E N) (λ x q E N. reply q (Stop 1) E N) = rw (m, requireAt) in
+        r ∙ ap (λ (x : Reply). andThen x λ x q E N. reply q (Stop 1) E N) (sym (e ∙ ap (λ (x : State). pushError (T .tokens) message (p .current) x E N) l))
 
     pub require-full : (w : ℕ) → g .got ≡ Stop w → reply (g .p) (g .got) E′ N ≡ requireAt T kind message p E N
     require-full w k = ap (λ (x : Got). reply (g .p) x E′ N) k ∙ sym (stops ∙ ap (λ (x : Got). andThen (reply (g .p) x E′ N) λ x q E N. reply q (Stop 1) E N) k)

@@ -12,7 +12,7 @@ use Rattle.parser.specs.declared.Form.{Form}
 use Rattle.parser.specs.declared.Form.the-variants.{Other, Empty, Name, Property}
 use Rattle.parser.specs.declared.Found.{Found}
 use Rattle.parser.specs.declared.Got.the-variants.{Stop}
-use Rattle.parser.specs.Tokens.{count}
+use Rattle.parser.specs.Tokens.{View, count}
 use Rattle.parser.specs.Tables.{reply, plain}
 use Rattle.parser.specs.Nodes.{fnExprRow, varRow, listRow, dictionaryRow, assignRow, accessRow, binaryRow, callRow, getRow, setRow, superRow, groupingRow, literalRow, logicalRow, thisRow, unaryRow, emptyRow, fnRow, letRow, blockRow, classRow, classicForRow, enhancedForRow, whileRow, ifRow, continueRow, returnRow, breakRow, tryCatchRow, exprRow, elifRow, nameRow}
 use Rattle.parser.specs.Programs.{Reader, Which, Declaration, Assignment, Operand, Prog, give, stop, _>>=_, _>>_, look, check, atEnd, previous, node, link, fail, failAt, consume, require, enterLoop, leaveLoop, giveBack, insideLoop, inFunction, down, run}
@@ -99,10 +99,10 @@ levels =
 abbrev pub operation : Level → ℕ → ℕ → ℕ → rows.Node
 operation level left operator right = rowIf (level .logical) (logicalRow left operator right) (binaryRow left operator right)
 
-module _ (T : List ℕ) where
+module _ (T : View) where
   -- the fuel of every loop: one more than the tokens, so that it is never used up
   abbrev pub fuel : ℕ
-  fuel = suc (count T)
+  fuel = suc (count (T .tokens))
 
   -- ---- statements
   -- `block`: declarations up to the closing brace; the first of them
@@ -195,7 +195,7 @@ module _ (T : List ℕ) where
     init ← look Equal (λ i. expression) nothing
     node (letRow (name .node) (init .node))
 
-  -- `enhanced_for`: the names may lack commas; the loop count is not given back
+  -- `enhanced_for`: the names may lack commas
   unfoldable pub namesFrom : ℕ → ℕ → ℕ → Prog
   namesFrom zero first last = spent
   namesFrom (suc f) first last =

@@ -1,4 +1,4 @@
--- Readers as programs, and what a program does. T is the token table.
+-- Readers as programs, and what a program does. T is the token table, and how its newlines are passed.
 use Prim.Native.Nat.{ℕ, _+_, _-_}
 use mathlib.Core.Bool.{Bool, true, false}
 use mathlib.Core.List.{List}
@@ -10,8 +10,8 @@ use Rattle.records.specs.declared.Node as rows
 use Rattle.parser.specs.declared.State.{State}
 use Rattle.parser.specs.declared.Found.{Found}
 use Rattle.parser.specs.declared.Got.the-variants.{Node, Stop}
-use Rattle.parser.specs.Tokens.{kindAt, checkAt, matchesAt}
-use Rattle.parser.specs.Tables.{Reply, reply, moved, looped, plain, pushNode, pushError, ifSeen, andThen, consumeAt, requireAt}
+use Rattle.parser.specs.Tokens.{View, kindAt, checkAt, matchesAt}
+use Rattle.parser.specs.Tables.{Reply, reply, moved, looked, looped, plain, pushNode, pushError, ifSeen, andThen, consumeAt, requireAt}
 
 -- a reader takes where the reading is and the two tables, and gives an answer and the tables then
 abbrev pub Reader : Type 0
@@ -72,20 +72,20 @@ abbrev pub restored : State → Reply → Reply
 restored p (reply q (Node f) E N) = reply (looped q (p .loops)) (Node f) E N
 restored p (reply q (Stop o) E N) = reply q (Stop o) E N
 
--- what a program does, given the readers one level down
-unfoldable pub run : List ℕ → (Which → Reader) → Prog → Reader
+-- what a program does, given the readers one level down. Each call of `check` is a look: `look`, `check`, `consume` and `require` make one, found or not
+unfoldable pub run : View → (Which → Reader) → Prog → Reader
 run T low (give f) p E N = reply p (Node f) E N
 run T low (stop o) p E N = reply p (Stop o) E N
 run T low (m >>= k) p E N = andThen (run T low m p E N) λ f q E N. run T low (k f) q E N
 run T low (m >> k) p E N = andThen (run T low m p E N) λ f q E N. run T low k q E N
-run T low (look kind found missing) p E N = ifSeen (matchesAt T (p .current) kind) (λ i. run T low (found i) (moved p i) E N) λ _. run T low missing p E N
-run T low (check kind found missing) p E N = ifSeen (checkAt T (p .current) kind) (λ i. run T low found (moved p i) E N) λ _. run T low missing p E N
-run T low (atEnd found missing) p E N = either (eqb (kindAt T (p .current)) EOF) (λ _. run T low found p E N) λ _. run T low missing p E N
+run T low (look kind found missing) p E N = ifSeen (matchesAt T (p .current) kind) (λ i. run T low (found i) (moved (looked p 1) i) E N) λ _. run T low missing (looked p 1) E N
+run T low (check kind found missing) p E N = ifSeen (checkAt T (p .current) kind) (λ i. run T low found (moved (looked p 1) i) E N) λ _. run T low missing (looked p 1) E N
+run T low (atEnd found missing) p E N = either (eqb (kindAt (T .tokens) (p .current)) EOF) (λ _. run T low found p E N) λ _. run T low missing p E N
 run T low previous p E N = reply p (Node (plain (p .current))) E N
 run T low (node d) p E N = pushNode d p E N
 run T low (link prev next) p E N = reply p (Node (plain 0)) E (linked N prev next)
-run T low (fail message) p E N = pushError T message (p .current) p E N
-run T low (failAt message token) p E N = pushError T message (token - 1) p E N
+run T low (fail message) p E N = pushError (T .tokens) message (p .current) p E N
+run T low (failAt message token) p E N = pushError (T .tokens) message (token - 1) p E N
 run T low (consume kind message) p E N = consumeAt T kind message p E N
 run T low (require kind message) p E N = requireAt T kind message p E N
 run T low enterLoop p E N = reply (looped p (raised (p .loops))) (Node (plain 0)) E N

@@ -1,5 +1,5 @@
 -- What a reading gives, and the leaves that write: nodes, links and errors.
-use Prim.Native.Nat.{ℕ, _+_}
+use Prim.Native.Nat.{ℕ, _+_, _-_, min}
 use mathlib.Core.Bool.{true, false}
 use mathlib.Core.List.{List}
 use lib.Dec.{ltb}
@@ -15,7 +15,7 @@ use Rattle.parser.specs.declared.Got.{Got}
 use Rattle.parser.specs.declared.Got.the-variants.{Node, Stop}
 use Rattle.parser.specs.declared.Seen.{Seen}
 use Rattle.parser.specs.declared.Seen.the-variants.{At, Nothing}
-use Rattle.parser.specs.Tokens.{startAt, lineAt, matchesAt}
+use Rattle.parser.specs.Tokens.{View, startAt, lineAt, matchesAt}
 
 -- a reader's answer: the state, what it found or why it stopped, and the tables of errors and nodes then
 pub data Reply : Type 0 where
@@ -23,23 +23,31 @@ pub data Reply : Type 0 where
 
 -- the reading goes on at token i
 abbrev pub moved : State → ℕ → State
-moved p i = record { rule = p .rule; current = i; errors = p .errors; nodes = p .nodes; loops = p .loops }
+moved p i = record { rule = p .rule; current = i; errors = p .errors; nodes = p .nodes; loops = p .loops; looks = p .looks }
 
 -- the reading goes on with so many open loops
 abbrev pub looped : State → ℕ → State
-looped p n = record { rule = p .rule; current = p .current; errors = p .errors; nodes = p .nodes; loops = n }
+looped p n = record { rule = p .rule; current = p .current; errors = p .errors; nodes = p .nodes; loops = n; looks = p .looks }
 
 -- with so many nodes
 abbrev pub withNodes : State → ℕ → State
-withNodes p n = record { rule = p .rule; current = p .current; errors = p .errors; nodes = n; loops = p .loops }
+withNodes p n = record { rule = p .rule; current = p .current; errors = p .errors; nodes = n; loops = p .loops; looks = p .looks }
 
 -- with so many errors
 abbrev pub withErrors : State → ℕ → State
-withErrors p n = record { rule = p .rule; current = p .current; errors = n; nodes = p .nodes; loops = p .loops }
+withErrors p n = record { rule = p .rule; current = p .current; errors = n; nodes = p .nodes; loops = p .loops; looks = p .looks }
 
 -- the state that a parsing starts in, by a rule and with so many errors recorded before
 abbrev pub freshState : ℕ → ℕ → State
-freshState rule errors = record { rule = rule; current = 0; errors = errors; nodes = 0; loops = 0 }
+freshState rule errors = record { rule = rule; current = 0; errors = errors; nodes = 0; loops = 0; looks = 0 }
+
+-- so many looks more, as far as a word counts
+unfoldable pub countedBy : ℕ → ℕ → ℕ
+countedBy n looks = looks + min n (4294967295 - looks)
+
+-- with so many looks more
+abbrev pub looked : State → ℕ → State
+looked p n = record { rule = p .rule; current = p .current; errors = p .errors; nodes = p .nodes; loops = p .loops; looks = countedBy n (p .looks) }
 
 -- one node more
 abbrev pub withNode : State → State
@@ -83,14 +91,14 @@ abbrev pub andThen : Reply → (Found → State → List ℕ → List ℕ → Re
 andThen (reply p (Node f) E N) k = k f p E N
 andThen (reply p (Stop o) E N) k = reply p (Stop o) E N
 
--- `consume`: the token asked for is passed, and its reference given; else its absence is an error, and 0 is given
-unfoldable pub consumeAt : List ℕ → ℕ → ℕ → State → List ℕ → List ℕ → Reply
+-- `consume`: one look; the token asked for is passed, and its reference given; else its absence is an error, and 0 is given
+unfoldable pub consumeAt : View → ℕ → ℕ → State → List ℕ → List ℕ → Reply
 consumeAt T kind message p E N =
-    ifSeen (matchesAt T (p .current) kind) (λ i. reply (moved p i) (Node (plain i)) E N) λ _.
-    pushError T message (p .current) p E N
+    ifSeen (matchesAt T (p .current) kind) (λ i. reply (moved (looked p 1) i) (Node (plain i)) E N) λ _.
+    pushError (T .tokens) message (p .current) (looked p 1) E N
 
 -- a `consume` whose result is unwrapped: its failure stops the reading
-unfoldable pub requireAt : List ℕ → ℕ → ℕ → State → List ℕ → List ℕ → Reply
+unfoldable pub requireAt : View → ℕ → ℕ → State → List ℕ → List ℕ → Reply
 requireAt T kind message p E N =
-    ifSeen (matchesAt T (p .current) kind) (λ i. reply (moved p i) (Node (plain i)) E N) λ _.
-    andThen (pushError T message (p .current) p E N) λ f q E N. reply q (Stop fatalStop) E N
+    ifSeen (matchesAt T (p .current) kind) (λ i. reply (moved (looked p 1) i) (Node (plain i)) E N) λ _.
+    andThen (pushError (T .tokens) message (p .current) (looked p 1) E N) λ f q E N. reply q (Stop fatalStop) E N

@@ -6,8 +6,8 @@ ghost use Prim.Native.Nat.{ℕ, _-_};
 ghost use lib.Dec.{eqb};
 ghost use Rattle.token.specs.Kind.{EOF};
 ghost use Rattle.rules.specs.Rules.{loopsBehind};
-ghost use Rattle.parser.specs.Tokens.{kindAt, startAt, lineAt, after, skipLines, peekAt, checkAt, matchesAt};
-ghost use Rattle.parser.specs.Tables.{Reply, reply, moved, looped, withNodes, withErrors, freshState, errorAt, pushNode, pushError, plain, consumeAt, requireAt};
+ghost use Rattle.parser.specs.Tokens.{kindAt, startAt, lineAt, after, indexed, skipLines, peekAt, checkAt, matchesAt};
+ghost use Rattle.parser.specs.Tables.{Reply, reply, moved, countedBy, looked, looped, withNodes, withErrors, freshState, errorAt, pushNode, pushError, plain, consumeAt, requireAt};
 ghost use Rattle.parser.specs.Programs.{raised};
 ghost use Rattle.parser.specs.Grammar.{firstOf};
 use records::InterpreterError;
@@ -15,14 +15,15 @@ use records::Node;
 use rules::Rule;
 use token::Token;
 
-// Where the reading is: the token at the cursor, how many errors and nodes stand in their tables, and the open loops of the innermost function. The rule is
-// carried along, and no reader changes it.
+// Where the reading is: the token at the cursor, how many errors and nodes stand in their tables, the open loops of the innermost function, and
+// how often `check` was called. The rule is carried along, and no reader changes it.
 pub struct State {
     pub rule: u32,
     pub current: u32,
     pub errors: u32,
     pub nodes: u32,
     pub loops: u32,
+    pub looks: u32,
 }
 
 // What may stand left of `=`: a name, or a property of an object; Empty is told apart since a statement asks for it.
@@ -94,30 +95,32 @@ pub fn next(tokens: &[u32], i: u32) -> u32
     i + 1
 }
 
-// The first token at or behind start that is no Newline.
-fn skip(tokens: &[u32], start: u32) -> u32
-    ensures { λ r. ⌜ r ≡ skipLines (now (tokens .entry)) start ⌝ }
+// Past the newlines: from a Newline the index leads on, and it is trusted only so far that it never leads back.
+fn skip(tokens: &[u32], index: &[u32], at: u32) -> u32
+    ensures { λ r. ⌜ r ≡ skipLines (indexed (now (tokens .entry)) (now (index .entry))) at ⌝ }
 {
-    let mut i = start;
-    while kind_at(tokens, i) == Token::NEWLINE {
-        i += 1;
+    if kind_at(tokens, at) == Token::NEWLINE {
+        let first = records::index_word(index, at);
+        if at < first {
+            return first - 1;
+        }
     }
-    i
+    at
 }
 
 // What comes past the newlines, for a reader that tests it for many kinds. Only this function and `check` pass newlines.
-pub fn peek(tokens: &[u32], at: u32) -> Coming
-    ensures { λ r. ⌜ r ≡ peekAt (now (tokens .entry)) at ⌝ }
+pub fn peek(tokens: &[u32], index: &[u32], at: u32) -> Coming
+    ensures { λ r. ⌜ r ≡ peekAt (indexed (now (tokens .entry)) (now (index .entry))) at ⌝ }
 {
-    let i = skip(tokens, at);
+    let i = skip(tokens, index, at);
     let kind = kind_at(tokens, i);
     let past = next(tokens, i);
     Coming { kind, past }
 }
 
 // `check`: for any kind but Newline it passes newlines. Where it finds the token the cursor stays on it; else the caller keeps its own.
-pub fn check(tokens: &[u32], at: u32, kind: u32) -> Seen
-    ensures { λ r. ⌜ r ≡ checkAt (now (tokens .entry)) at kind ⌝ }
+pub fn check(tokens: &[u32], index: &[u32], at: u32, kind: u32) -> Seen
+    ensures { λ r. ⌜ r ≡ checkAt (indexed (now (tokens .entry)) (now (index .entry))) at kind ⌝ }
 {
     if kind == Token::NEWLINE {
         if kind_at(tokens, at) == Token::NEWLINE {
@@ -126,7 +129,7 @@ pub fn check(tokens: &[u32], at: u32, kind: u32) -> Seen
             Seen::Nothing
         }
     } else {
-        let i = skip(tokens, at);
+        let i = skip(tokens, index, at);
         if kind_at(tokens, i) == kind {
             Seen::At(i)
         } else {
@@ -136,10 +139,10 @@ pub fn check(tokens: &[u32], at: u32, kind: u32) -> Seen
 }
 
 // `matches`: the cursor behind the token found.
-pub fn matches(tokens: &[u32], at: u32, kind: u32) -> Seen
-    ensures { λ r. ⌜ r ≡ matchesAt (now (tokens .entry)) at kind ⌝ }
+pub fn matches(tokens: &[u32], index: &[u32], at: u32, kind: u32) -> Seen
+    ensures { λ r. ⌜ r ≡ matchesAt (indexed (now (tokens .entry)) (now (index .entry))) at kind ⌝ }
 {
-    match check(tokens, at, kind) {
+    match check(tokens, index, at, kind) {
         Seen::At(i) => Seen::At(next(tokens, i)),
         Seen::Nothing => Seen::Nothing,
     }
@@ -155,17 +158,45 @@ pub fn is_at_end(tokens: &[u32], p: State) -> bool
 
 // ---- the state by value
 
+// So many looks more; a count that a word can't hold stays at the greatest. No reading comes near it.
+fn counted(looks: u32, n: u32) -> u32
+    ensures { λ r. ⌜ r ≡ countedBy n looks ⌝ }
+{
+    let left = 4294967295 - looks;
+    if n <= left {
+        return looks + n;
+    }
+    looks + left
+}
+
 impl State {
-    // The reading goes on at token i.
-    pub fn at_token(self, i: u32) -> Self
-        ensures { λ r. ⌜ r ≡ moved self i ⌝ }
+    // The reading goes on at token i, found after so many looks.
+    pub fn at_token(self, i: u32, n: u32) -> Self
+        ensures { λ r. ⌜ r ≡ moved (looked self n) i ⌝ }
     {
+        let looks = counted(self.looks, n);
         State {
             rule: self.rule,
             current: i,
             errors: self.errors,
             nodes: self.nodes,
             loops: self.loops,
+            looks,
+        }
+    }
+
+    // So many looks more.
+    pub fn looked(self, n: u32) -> Self
+        ensures { λ r. ⌜ r ≡ looked self n ⌝ }
+    {
+        let looks = counted(self.looks, n);
+        State {
+            rule: self.rule,
+            current: self.current,
+            errors: self.errors,
+            nodes: self.nodes,
+            loops: self.loops,
+            looks,
         }
     }
 
@@ -179,6 +210,7 @@ impl State {
             errors: self.errors,
             nodes: self.nodes,
             loops: n,
+            looks: self.looks,
         }
     }
 
@@ -192,6 +224,7 @@ impl State {
             errors: self.errors,
             nodes: n,
             loops: self.loops,
+            looks: self.looks,
         }
     }
 
@@ -205,6 +238,7 @@ impl State {
             errors: n,
             nodes: self.nodes,
             loops: self.loops,
+            looks: self.looks,
         }
     }
 
@@ -218,6 +252,7 @@ impl State {
             errors,
             nodes: 0,
             loops: 0,
+            looks: 0,
         }
     }
 
@@ -332,26 +367,40 @@ pub fn set_error(tokens: &[u32], errors: &mut [u32], p: State, message: u32, tok
     stopped(p, 6)
 }
 
-// `consume`: the token's reference; or its absence is an error, and 0.
-pub fn consume(tokens: &[u32], errors: &mut [u32], p: State, kind: u32, message: u32) -> Out
-    ensures { λ r. ⌜ ((N : List ℕ) → reply (r .p) (r .got) (now (errors .exit)) N ≡ consumeAt (now (tokens .entry)) kind message p (now (errors .entry)) N) ⌝ }
+// `consume`: one look; the token's reference, or its absence is an error, and 0.
+pub fn consume(
+    tokens: &[u32],
+    errors: &mut [u32],
+    index: &[u32],
+    p: State,
+    kind: u32,
+    message: u32,
+) -> Out
+    ensures { λ r. ⌜ ((N : List ℕ) → reply (r .p) (r .got) (now (errors .exit)) N ≡ consumeAt (indexed (now (tokens .entry)) (now (index .entry))) kind message p (now (errors .entry)) N) ⌝ }
 {
     let at = p.current;
-    match matches(tokens, at, kind) {
-        Seen::At(i) => gives(p.at_token(i), i),
-        Seen::Nothing => set_error(tokens, errors, p, message, at),
+    match matches(tokens, index, at, kind) {
+        Seen::At(i) => gives(p.at_token(i, 1), i),
+        Seen::Nothing => set_error(tokens, errors, p.looked(1), message, at),
     }
 }
 
 // A `consume` whose result is unwrapped: its failure stops the reading.
-pub fn require(tokens: &[u32], errors: &mut [u32], p: State, kind: u32, message: u32) -> Out
-    ensures { λ r. ⌜ ((N : List ℕ) → reply (r .p) (r .got) (now (errors .exit)) N ≡ requireAt (now (tokens .entry)) kind message p (now (errors .entry)) N) ⌝ }
+pub fn require(
+    tokens: &[u32],
+    errors: &mut [u32],
+    index: &[u32],
+    p: State,
+    kind: u32,
+    message: u32,
+) -> Out
+    ensures { λ r. ⌜ ((N : List ℕ) → reply (r .p) (r .got) (now (errors .exit)) N ≡ requireAt (indexed (now (tokens .entry)) (now (index .entry))) kind message p (now (errors .entry)) N) ⌝ }
 {
     let at = p.current;
-    match matches(tokens, at, kind) {
-        Seen::At(i) => gives(p.at_token(i), i),
+    match matches(tokens, index, at, kind) {
+        Seen::At(i) => gives(p.at_token(i, 1), i),
         Seen::Nothing => {
-            let g = set_error(tokens, errors, p, message, at);
+            let g = set_error(tokens, errors, p.looked(1), message, at);
             let k = g.got;
             let Got::Node(_) = k else {
                 return g;
@@ -362,10 +411,11 @@ pub fn require(tokens: &[u32], errors: &mut [u32], p: State, kind: u32, message:
     }
 }
 
-// How the parsing ended, how many errors and nodes are kept, and the first statement.
+// How the parsing ended, how many errors and nodes are kept, the first statement, and how often `check` was called.
 pub struct Parsed {
     pub outcome: u32,
     pub errors: u32,
     pub nodes: u32,
     pub first: u32,
+    pub looks: u32,
 }

@@ -3,13 +3,13 @@ use mathlib.Core.Path.{_≡_, refl, subst}
 use mathlib.Core.List.{List, [], _∷_}
 use mathlib.Core.Bool.{Bool, true, false, _&&_, _||_}
 use mathlib.Core.Logic.{⊎-elim}
-use Prim.Native.Nat.{ℕ, zero, suc, _+_, _-_, _≤_}
+use Prim.Native.Nat.{ℕ, zero, suc, _+_, _-_, _≤_, _<_}
 use native.Mathlib.Omega.{arith}
 use lib.Dec as dec
 use lib.Dec.{leb, ltb, eqb}
 use borrow.Author.Tests.{eqb-true, eqb-false}
 use Rattle.token.specs.Kind.{Newline, RightParen, RightBrace}
-use Rattle.records.specs.Table.{room, linked, tokenWidth}
+use Rattle.records.specs.Table.{room, linked, tokenWidth, indexWidth}
 use Rattle.records.specs.declared.Node as rows
 use Rattle.records.proofs.Room.{lt-or-le}
 use Rattle.records.proofs.Field.{field-none}
@@ -21,12 +21,14 @@ use Rattle.parser.specs.declared.Got.{Got}
 use Rattle.parser.specs.declared.Got.the-variants.{Node, Stop}
 use Rattle.parser.specs.declared.Seen.{Seen}
 use Rattle.parser.specs.declared.Seen.the-variants.{At, Nothing}
-use Rattle.parser.specs.Tokens.{count, kindAt, after, skipFrom, skipLines, seenIf, checkAt, matchesAt}
-use Rattle.parser.specs.Tables.{Reply, reply, moved, looped, freshState, plain, pushNode, pushError, ifSeen, andThen, consumeAt, requireAt}
+use Rattle.parser.specs.Tokens.{View, count, kindAt, startAt, lineAt, after, walked, indexed, skipLines, seenIf, checkAt, matchesAt}
+use Rattle.parser.specs.Tables.{Reply, reply, looped, freshState, pushNode, pushError, ifSeen, andThen, consumeAt, requireAt}
 use Rattle.parser.specs.Programs.{Reader, Which, Declaration, Assignment, Operand, Prog, give, stop, _>>=_, _>>_, look, check, atEnd, previous, node, link, fail, failAt, consume, require, enterLoop, leaveLoop, giveBack, insideLoop, inFunction, down, either, restored, run}
 use Rattle.parser.specs.Grammar.{firstOf, property, when, assigned, Level, levels, fuel, blockFrom, block, expressionStmt, parametersFrom, parameters, functionBody, fnStmt, fnExpr, methodsFrom, class, letStmt, namesFrom, enhancedFor, classicFor, forLoop, tryCatch, elifsFrom, elseFrom, ifStmt, ret, brk, cont, whileStmt, statement, declaration, argumentsFrom, arguments, list, dictElementsFrom, dictionary, closed, access, superExpr, primary, finishCall, callFrom, call, unary, lookMany, binaryFrom, binary, assignment, body, lower}
 use Rattle.parser.specs.Whole.{Parsed, topLevel, orEnds, ifEnd, statements, parsed}
 use Rattle.parser.proofs.Push.{push-nodes, push-errors}
+use Rattle.lines.specs.Lines.{lineIndex}
+use Rattle.lines.proofs.Agrees.{skip-same, walked-within, walked-same, hops-same, indexed-within}
 use Rattle.parsing.specs.Ahead.{Agree, isOutcome}
 use Rattle.parsing.specs.Places.{isParsers}
 use Rattle.parsing.proofs.Same.{body-same}
@@ -69,7 +71,7 @@ assigned-kept (Property n o) a v t e h = tt
 assigned-kept Other a v t e h = ((tt, h), tt)
 assigned-kept Empty a v t e h = ((tt, h), tt)
 
-module _ (T : List ℕ) (e : ℕ) where
+module _ (T : View) (e : ℕ) where
   block-from-kept : (f first last : ℕ) → Kept e (blockFrom T f first last)
   unfolding blockFrom
   block-from-kept zero first last = tt
@@ -261,9 +263,18 @@ module _ (T : List ℕ) (e : ℕ) where
   body-kept Assignment = assignment-kept
   body-kept Operand = unary-kept
 
--- a table agrees with itself up to any EOF
-pub agree-self : (T : List ℕ) (e : ℕ) → kindAt T e ≡ 0 → Agree e T T
-agree-self T e end = record { counts = refl; end = end; kinds = λ i h. refl; starts = λ i h. refl; lines = λ i h. refl }
+-- ---- tables that agree
+-- two tables whose newlines are walked
+pub agree-walked : (t t′ : List ℕ) (e : ℕ) → count t ≡ count t′ → kindAt t e ≡ 0 → ((i : ℕ) → i ≤ e → kindAt t i ≡ kindAt t′ i) → ((i : ℕ) → i ≤ e → startAt t i ≡ startAt t′ i) → ((i : ℕ) → i ≤ e → lineAt t i ≡ lineAt t′ i) → Agree e (walked t) (walked t′)
+agree-walked t t′ e c end k s l = record { counts = c; end = end; kinds = k; starts = s; lines = l; hops = λ i h n. walked-same t e end t′ c k i h; within = walked-within t e end }
+
+-- such a table agrees with itself up to any EOF
+pub agree-self : (t : List ℕ) (e : ℕ) → kindAt t e ≡ 0 → Agree e (walked t) (walked t)
+agree-self t e end = agree-walked t t e refl end (λ i h. refl) (λ i h. refl) λ i h. refl
+
+-- and with what its index makes of it, up to the last of the n tokens that are indexed
+pub agree-indexed : (t x : List ℕ) (n : ℕ) → 0 < n → n ≤ count t → kindAt t (n - 1) ≡ 0 → n ≤ room indexWidth x → Agree (n - 1) (indexed t (lineIndex t n x)) (walked t)
+agree-indexed t x n some kept end fits = record { counts = refl; end = end; kinds = λ i h. refl; starts = λ i h. refl; lines = λ i h. refl; hops = λ i h o. hops-same t x n some kept end fits i h; within = indexed-within t x n some kept end fits }
 
 -- ---- looking at tokens
 -- the same place, at or before e
@@ -284,32 +295,21 @@ Ending (Stop o) = Stops o
 pub data Ahead (e : ℕ) : Reply → Reply → Type 0 where
   ahead : (q : State) (g : Got) (E N : List ℕ) → q .current ≤ e → Ending g → Ahead e (reply q g E N) (reply q g E N)
 
-module _ (T T′ : List ℕ) (e : ℕ) (a : Agree e T T′) where
+module _ (T T′ : View) (e : ℕ) (a : Agree e T T′) where
   -- a token that is no EOF stands before it
-  before : (i : ℕ) → i ≤ e → (kindAt T i ≡ 0 → ⊥) → i + 1 ≤ e
+  before : (i : ℕ) → i ≤ e → (kindAt (T .tokens) i ≡ 0 → ⊥) → i + 1 ≤ e
   before i h n = ⊎-elim (λ l. omega arith) (λ l. let s : e ≡ i = omega arith in absurd (n (rw (← s) (a .end)))) (lt-or-le i e)
 
-  after-ahead : (i : ℕ) → i ≤ e → Place e (after T i) (after T′ i)
+  after-ahead : (i : ℕ) → i ≤ e → Place e (after (T .tokens) i) (after (T′ .tokens) i)
   unfolding after
-  after-ahead i h = rw (← a .kinds i h, after) (go (eqb (kindAt T i) 0) refl)
+  after-ahead i h = rw (← a .kinds i h, after) (go (eqb (kindAt (T .tokens) i) 0) refl)
     where
-      go : (b : Bool) → eqb (kindAt T i) 0 ≡ b → Place e (elim b [ true ↦ i | false ↦ i + 1 ]) (elim b [ true ↦ i | false ↦ i + 1 ])
+      go : (b : Bool) → eqb (kindAt (T .tokens) i) 0 ≡ b → Place e (elim b [ true ↦ i | false ↦ i + 1 ]) (elim b [ true ↦ i | false ↦ i + 1 ])
       go true t = (h, refl)
-      go false t = (before i h (eqb-false (kindAt T i) 0 t), refl)
-
-  skip-from-ahead : (n i : ℕ) → i ≤ e → Place e (skipFrom n T i) (skipFrom n T′ i)
-  unfolding skipFrom
-  skip-from-ahead zero i h = (h, refl)
-  skip-from-ahead (suc n) i h = rw (← a .kinds i h, skipFrom) (go (eqb (kindAt T i) 1) refl λ l. skip-from-ahead n (i + 1) l)
-    where
-      go : (b : Bool) → eqb (kindAt T i) 1 ≡ b → (i + 1 ≤ e → Place e (skipFrom n T (i + 1)) (skipFrom n T′ (i + 1)))
-          → Place e (elim b [ true ↦ skipFrom n T (i + 1) | false ↦ i ]) (elim b [ true ↦ skipFrom n T′ (i + 1) | false ↦ i ])
-      go true t s = s (before i h λ z. let k = eqb-true (kindAt T i) 1 t in omega arith)
-      go false t s = (h, refl)
+      go false t = (before i h (eqb-false (kindAt (T .tokens) i) 0 t), refl)
 
   skip-ahead : (i : ℕ) → i ≤ e → Place e (skipLines T i) (skipLines T′ i)
-  unfolding skipLines
-  skip-ahead i h = rw (← a .counts) (skip-from-ahead (count T - i) i h)
+  skip-ahead i h = (a .within i h, skip-same T T′ i (a .kinds i h) (a .hops i h))
 
   seen-ahead : (b : Bool) (i : ℕ) → i ≤ e → Spotted e (seenIf b i) (seenIf b i)
   unfolding seenIf
@@ -320,19 +320,19 @@ module _ (T T′ : List ℕ) (e : ℕ) (a : Agree e T T′) where
   unfolding checkAt
   check-ahead i kind h = go (eqb kind 1)
     where
-      go : (b : Bool) → Spotted e (elim b [ true ↦ seenIf (eqb (kindAt T i) 1) i | false ↦ seenIf (eqb (kindAt T (skipLines T i)) kind) (skipLines T i) ])
-          (elim b [ true ↦ seenIf (eqb (kindAt T′ i) 1) i | false ↦ seenIf (eqb (kindAt T′ (skipLines T′ i)) kind) (skipLines T′ i) ])
-      go true = rw (← a .kinds i h) (seen-ahead (eqb (kindAt T i) 1) i h)
+      go : (b : Bool) → Spotted e (elim b [ true ↦ seenIf (eqb (kindAt (T .tokens) i) 1) i | false ↦ seenIf (eqb (kindAt (T .tokens) (skipLines T i)) kind) (skipLines T i) ])
+          (elim b [ true ↦ seenIf (eqb (kindAt (T′ .tokens) i) 1) i | false ↦ seenIf (eqb (kindAt (T′ .tokens) (skipLines T′ i)) kind) (skipLines T′ i) ])
+      go true = rw (← a .kinds i h) (seen-ahead (eqb (kindAt (T .tokens) i) 1) i h)
       go false =
           let s = skip-ahead i h in
-          rw (← s .1, ← a .kinds (skipLines T i) (s .0)) (seen-ahead (eqb (kindAt T (skipLines T i)) kind) (skipLines T i) (s .0))
+          rw (← s .1, ← a .kinds (skipLines T i) (s .0)) (seen-ahead (eqb (kindAt (T .tokens) (skipLines T i)) kind) (skipLines T i) (s .0))
 
   pub matches-ahead : (i kind : ℕ) → i ≤ e → Spotted e (matchesAt T i kind) (matchesAt T′ i kind)
   unfolding matchesAt
   matches-ahead i kind h = go (check-ahead i kind h)
     where
-      go : {s s′ : Seen} → Spotted e s s′ → Spotted e (elim s [ At j ↦ At (after T j) | Nothing ↦ Nothing ]) (elim s′ [ At j ↦ At (after T′ j) | Nothing ↦ Nothing ])
-      go (spot j l) = let f = after-ahead j l in rw (← f .1) (spot (after T j) (f .0))
+      go : {s s′ : Seen} → Spotted e s s′ → Spotted e (elim s [ At j ↦ At (after (T .tokens) j) | Nothing ↦ Nothing ]) (elim s′ [ At j ↦ At (after (T′ .tokens) j) | Nothing ↦ Nothing ])
+      go (spot j l) = let f = after-ahead j l in rw (← f .1) (spot (after (T .tokens) j) (f .0))
       go none = none
 
 -- ---- steps of a reading
@@ -364,19 +364,19 @@ ahead-restored e p (ahead q (Stop o) E N l x) = ahead q (Stop o) E N l x
 ahead-push : (e : ℕ) (d : rows.Node) (p : State) (E N : List ℕ) → p .current ≤ e → Ahead e (pushNode d p E N) (pushNode d p E N)
 ahead-push e d p E N l = push-nodes (Ahead e) d d p p E N E N refl refl (λ _. ahead _ _ _ _ l tt) (ahead _ _ _ _ l tt)
 
-module _ (T T′ : List ℕ) (e : ℕ) (a : Agree e T T′) where
-  ahead-error : (m i : ℕ) (p : State) (E N : List ℕ) → i ≤ e → p .current ≤ e → Ahead e (pushError T m i p E N) (pushError T′ m i p E N)
-  ahead-error m i p E N h l = push-errors (Ahead e) T T′ m i p p E N E N refl refl (λ _. rw (a .lines i h, a .starts i h) (ahead _ _ _ _ l tt)) (ahead _ _ _ _ l tt)
+module _ (T T′ : View) (e : ℕ) (a : Agree e T T′) where
+  ahead-error : (m i : ℕ) (p : State) (E N : List ℕ) → i ≤ e → p .current ≤ e → Ahead e (pushError (T .tokens) m i p E N) (pushError (T′ .tokens) m i p E N)
+  ahead-error m i p E N h l = push-errors (Ahead e) (T .tokens) (T′ .tokens) m i p p E N E N refl refl (λ _. rw (a .lines i h, a .starts i h) (ahead _ _ _ _ l tt)) (ahead _ _ _ _ l tt)
 
   ahead-consume : (kind m : ℕ) (p : State) (E N : List ℕ) → p .current ≤ e → Ahead e (consumeAt T kind m p E N) (consumeAt T′ kind m p E N)
   unfolding consumeAt
-  ahead-consume kind m p E N l = ahead-seen e _ _ _ _ (matches-ahead T T′ e a (p .current) kind l) (λ i h. ahead (moved p i) (Node (plain i)) E N h tt) (ahead-error m (p .current) p E N l l)
+  ahead-consume kind m p E N l = ahead-seen e _ _ _ _ (matches-ahead T T′ e a (p .current) kind l) (λ i h. ahead _ _ E N h tt) (ahead-error m (p .current) _ E N l l)
 
   ahead-require : (kind m : ℕ) (p : State) (E N : List ℕ) → p .current ≤ e → Ahead e (requireAt T kind m p E N) (requireAt T′ kind m p E N)
   unfolding requireAt
   ahead-require kind m p E N l =
-      ahead-seen e _ _ _ _ (matches-ahead T T′ e a (p .current) kind l) (λ i h. ahead (moved p i) (Node (plain i)) E N h tt)
-      (ahead-then e _ _ (ahead-error m (p .current) p E N l l) λ f q E N h. ahead q (Stop 1) E N h tt)
+      ahead-seen e _ _ _ _ (matches-ahead T T′ e a (p .current) kind l) (λ i h. ahead _ _ E N h tt)
+      (ahead-then e _ _ (ahead-error m (p .current) _ E N l l) λ f q E N h. ahead q (Stop 1) E N h tt)
 
   -- ---- the induction: one program over both tables, with readers one level down that do the same
   module _ (low low′ : Which → Reader) (g : (w : Which) (p : State) (E N : List ℕ) → p .current ≤ e → Ahead e (low w p E N) (low′ w p E N)) where
@@ -386,9 +386,9 @@ module _ (T T′ : List ℕ) (e : ℕ) (a : Agree e T T′) where
     run-ahead (stop o) k p E N l = ahead p _ E N l k
     run-ahead (m >>= n) k p E N l = ahead-then e _ _ (run-ahead m (k .0) p E N l) λ f q E N h. run-ahead (n f) (k .1 f) q E N h
     run-ahead (m >> n) k p E N l = ahead-then e _ _ (run-ahead m (k .0) p E N l) λ f q E N h. run-ahead n (k .1) q E N h
-    run-ahead (look kind found missing) k p E N l = ahead-seen e _ _ _ _ (matches-ahead T T′ e a (p .current) kind l) (λ i h. run-ahead (found i) (k .0 i h) (moved p i) E N h) (run-ahead missing (k .1) p E N l)
-    run-ahead (check kind found missing) k p E N l = ahead-seen e _ _ _ _ (check-ahead T T′ e a (p .current) kind l) (λ i h. run-ahead found (k .0) (moved p i) E N h) (run-ahead missing (k .1) p E N l)
-    run-ahead (atEnd found missing) k p E N l = rw (← a .kinds (p .current) l) (ahead-either e (eqb (kindAt T (p .current)) 0) _ _ _ _ (run-ahead found (k .0) p E N l) (run-ahead missing (k .1) p E N l))
+    run-ahead (look kind found missing) k p E N l = ahead-seen e _ _ _ _ (matches-ahead T T′ e a (p .current) kind l) (λ i h. run-ahead (found i) (k .0 i h) _ E N h) (run-ahead missing (k .1) _ E N l)
+    run-ahead (check kind found missing) k p E N l = ahead-seen e _ _ _ _ (check-ahead T T′ e a (p .current) kind l) (λ i h. run-ahead found (k .0) _ E N h) (run-ahead missing (k .1) _ E N l)
+    run-ahead (atEnd found missing) k p E N l = rw (← a .kinds (p .current) l) (ahead-either e (eqb (kindAt (T .tokens) (p .current)) 0) _ _ _ _ (run-ahead found (k .0) p E N l) (run-ahead missing (k .1) p E N l))
     run-ahead previous k p E N l = ahead p _ E N l tt
     run-ahead (node d) k p E N l = ahead-push e d p E N l
     run-ahead (link prev next) k p E N l = ahead p _ E _ l tt
@@ -433,20 +433,20 @@ module _ (T T′ : List ℕ) (e : ℕ) (a : Agree e T T′) where
   statements-tokens zero first last p E N l = refl
   statements-tokens (suc n) first last p E N l =
       rw (← a .kinds (p .current) l)
-      (same-if (eqb (kindAt T (p .current)) 0) _ _ _ _ refl
+      (same-if (eqb (kindAt (T .tokens) (p .current)) 0) _ _ _ _ refl
       (same-or first (p .nodes) _ _ (top-ahead p E N l) λ m q E N h. statements-tokens n (firstOf first m) m q E (linked N last m) h))
 
   -- a parsing depends on the tokens up to an EOF, and on how many tokens the table has room for
   pub parsed-tokens : (rule errors : ℕ) (E N : List ℕ) → parsed rule T errors E N ≡ parsed rule T′ errors E N
   unfolding parsed
-  parsed-tokens rule errors E N = rw (← a .counts) (statements-tokens (suc (count T)) 0 0 (freshState rule errors) E N (omega arith))
+  parsed-tokens rule errors E N = rw (← a .counts) (statements-tokens (suc (count (T .tokens))) 0 0 (freshState rule errors) E N (omega arith))
 
 -- ---- the outcomes
-module _ (T : List ℕ) where
+module _ (t : List ℕ) where
   -- past the end every token is an EOF
-  past-end : kindAt T (count T) ≡ 0
+  past-end : kindAt t (count t) ≡ 0
   unfolding kindAt
-  past-end = field-none tokenWidth 0 T (count T) (omega arith)
+  past-end = field-none tokenWidth 0 t (count t) (omega arith)
 
   stops-or : (e first kept : ℕ) {r r′ : Reply} (k : ℕ → State → List ℕ → List ℕ → Parsed) → Ahead e r r′ → ((n : ℕ) (q : State) (E N : List ℕ) → q .current ≤ e → Stops (k n q E N .outcome)) → Stops (orEnds first kept r k .outcome)
   stops-or e first kept k (ahead q (Node f) E N l x) h = h (f .node) q E N l
@@ -456,20 +456,20 @@ module _ (T : List ℕ) where
   stops-if true f g h m = h
   stops-if false f g h m = m
 
-  statements-stop : (n first last : ℕ) (p : State) (E N : List ℕ) → p .current ≤ count T → Stops (statements n T first last p E N .outcome)
+  statements-stop : (n first last : ℕ) (p : State) (E N : List ℕ) → p .current ≤ count t → Stops (statements n (walked t) first last p E N .outcome)
   unfolding statements
   statements-stop zero first last p E N l = tt
-  statements-stop (suc n) first last p E N l = stops-if (eqb (kindAt T (p .current)) 0) _ _ tt (stops-or (count T) first (p .nodes) _ (top-ahead T T (count T) (agree-self T (count T) past-end) p E N l) λ m q E N h. statements-stop n (firstOf first m) m q E (linked N last m) h)
+  statements-stop (suc n) first last p E N l = stops-if (eqb (kindAt t (p .current)) 0) _ _ tt (stops-or (count t) first (p .nodes) _ (top-ahead (walked t) (walked t) (count t) (agree-self t (count t) past-end) p E N l) λ m q E N h. statements-stop n (firstOf first m) m q E (linked N last m) h)
 
   -- a parsing ends with outcome 0, 1, 6, 7 or 8
-  pub parsed-outcome : (rule errors : ℕ) (E N : List ℕ) → isOutcome (parsed rule T errors E N .outcome) ≡ true
+  pub parsed-outcome : (rule errors : ℕ) (E N : List ℕ) → isOutcome (parsed rule (walked t) errors E N .outcome) ≡ true
   unfolding parsed
-  parsed-outcome rule errors E N = go (isOutcome o) refl (eqb o 99) refl (statements-stop (suc (count T)) 0 0 (freshState rule errors) E N (omega arith))
+  parsed-outcome rule errors E N = go (isOutcome o) refl (eqb o 99) refl (statements-stop (suc (count t)) 0 0 (freshState rule errors) E N (omega arith))
     where
       o : ℕ
-      o = parsed rule T errors E N .outcome
+      o = parsed rule (walked t) errors E N .outcome
 
       go : (b : Bool) → isOutcome o ≡ b → (c : Bool) → eqb o 99 ≡ c → dec.T (b || c) → isOutcome o ≡ true
-      go true s c t x = s
-      go false s true t x = absurd (parsed-never-spent rule T errors E N (eqb-true o 99 t))
-      go false s false t x = absurd x
+      go true s c u x = s
+      go false s true u x = absurd (parsed-never-spent rule (walked t) errors E N (eqb-true o 99 u))
+      go false s false u x = absurd x

@@ -15,8 +15,8 @@ use Rattle.parser.specs.declared.Found.{Found}
 use Rattle.parser.specs.declared.Seen.{Seen}
 use Rattle.parser.specs.declared.Seen.the-variants.{At, Nothing}
 use Rattle.parser.specs.declared.Got.the-variants.{Node, Stop}
-use Rattle.parser.specs.Tokens.{kindAt, checkAt, matchesAt}
-use Rattle.parser.specs.Tables.{Reply, reply, moved, looped, plain, pushNode, pushError, ifSeen, andThen, consumeAt, requireAt}
+use Rattle.parser.specs.Tokens.{View, kindAt, checkAt, matchesAt}
+use Rattle.parser.specs.Tables.{Reply, reply, looped, plain, pushNode, pushError, ifSeen, andThen, consumeAt, requireAt}
 use Rattle.parser.specs.Programs.{Reader, Which, Prog, give, stop, _>>=_, _>>_, look, check, atEnd, previous, node, link, fail, failAt, consume, require, enterLoop, leaveLoop, giveBack, insideLoop, inFunction, down, raised, either, restored, run}
 use Rattle.parser.proofs.Push.{push-nodes, push-errors}
 use Rattle.parsing.specs.Calls.{Name, called, lambda, Call, nameOf, sameName, withLoops, Named, named, unequal, NamedReader, thenNamed, ifNamed, eitherNamed, leave, runNamed, lowerNamed}
@@ -51,22 +51,22 @@ agree-either cs true a b c d h g = h
 agree-either cs false a b c d h g = g
 
 -- ---- leaves: the loop count is not looked at
-module _ (c : Call) (cs : List Call) (p : State) where
-  agree-node : (d : rows.Node) (E N : List ℕ) → Agree (c ∷ cs) (named (pushNode d p E N) (c ∷ cs)) (pushNode d (looped p (c .loops)) E N)
-  agree-node d E N = push-nodes (λ x y. Agree (c ∷ cs) (named x (c ∷ cs)) y) d d p (looped p (c .loops)) E N E N refl refl (λ _. nodes _ _ E _ (c .loops)) (stops p 7 E N _ (c .loops))
+module _ (c : Call) (cs : List Call) where
+  agree-node : (p : State) (d : rows.Node) (E N : List ℕ) → Agree (c ∷ cs) (named (pushNode d p E N) (c ∷ cs)) (pushNode d (looped p (c .loops)) E N)
+  agree-node p d E N = push-nodes (λ x y. Agree (c ∷ cs) (named x (c ∷ cs)) y) d d p (looped p (c .loops)) E N E N refl refl (λ _. nodes _ _ E _ (c .loops)) (stops p 7 E N _ (c .loops))
 
-  agree-error : (T : List ℕ) (message i : ℕ) (E N : List ℕ) → Agree (c ∷ cs) (named (pushError T message i p E N) (c ∷ cs)) (pushError T message i (looped p (c .loops)) E N)
-  agree-error T message i E N = push-errors (λ x y. Agree (c ∷ cs) (named x (c ∷ cs)) y) T T message i p (looped p (c .loops)) E N E N refl refl (λ _. nodes _ _ _ N (c .loops)) (stops p 6 E N _ (c .loops))
+  agree-error : (p : State) (t : List ℕ) (message i : ℕ) (E N : List ℕ) → Agree (c ∷ cs) (named (pushError t message i p E N) (c ∷ cs)) (pushError t message i (looped p (c .loops)) E N)
+  agree-error p t message i E N = push-errors (λ x y. Agree (c ∷ cs) (named x (c ∷ cs)) y) t t message i p (looped p (c .loops)) E N E N refl refl (λ _. nodes _ _ _ N (c .loops)) (stops p 6 E N _ (c .loops))
 
-  agree-consume : (T : List ℕ) (kind message : ℕ) (E N : List ℕ) → Agree (c ∷ cs) (named (consumeAt T kind message p E N) (c ∷ cs)) (consumeAt T kind message (looped p (c .loops)) E N)
+  -- a token found or not, within a named answer
+  inner-seen : (s : Seen) (f f′ : ℕ → Reply) (g g′ : Unit {0} → Reply) → ((i : ℕ) → Agree (c ∷ cs) (named (f i) (c ∷ cs)) (f′ i)) → Agree (c ∷ cs) (named (g tt) (c ∷ cs)) (g′ tt)
+      → Agree (c ∷ cs) (named (ifSeen s f g) (c ∷ cs)) (ifSeen s f′ g′)
+  inner-seen (At i) f f′ g g′ h e = h i
+  inner-seen Nothing f f′ g g′ h e = e
+
+  agree-consume : (p : State) (T : View) (kind message : ℕ) (E N : List ℕ) → Agree (c ∷ cs) (named (consumeAt T kind message p E N) (c ∷ cs)) (consumeAt T kind message (looped p (c .loops)) E N)
   unfolding consumeAt
-  agree-consume T kind message E N = go (matchesAt T (p .current) kind)
-    where
-      go : (s : Seen) → Agree (c ∷ cs)
-          (named (ifSeen s (λ i. reply (moved p i) (Node (plain i)) E N) λ _. pushError T message (p .current) p E N) (c ∷ cs))
-          (ifSeen s (λ i. reply (moved (looped p (c .loops)) i) (Node (plain i)) E N) λ _. pushError T message (p .current) (looped p (c .loops)) E N)
-      go (At i) = nodes (moved p i) (plain i) E N (c .loops)
-      go Nothing = agree-error T message (p .current) E N
+  agree-consume p T kind message E N = inner-seen (matchesAt T (p .current) kind) _ _ _ _ (λ i. nodes _ _ E N (c .loops)) (agree-error _ (T .tokens) message (p .current) E N)
 
   stopping : {x : Named} {y : Reply} → Agree (c ∷ cs) x y → Agree (c ∷ cs) (thenNamed x λ f q ds E N. named (reply q (Stop 1) E N) ds) (andThen y λ f q E N. reply q (Stop 1) E N)
   stopping (nodes p f E N n) = stops p 1 E N _ n
@@ -77,17 +77,14 @@ module _ (c : Call) (cs : List Call) (p : State) where
   inner (reply q (Node f) E N) = refl
   inner (reply q (Stop o) E N) = refl
 
-  agree-require : (T : List ℕ) (kind message : ℕ) (E N : List ℕ) → Agree (c ∷ cs) (named (requireAt T kind message p E N) (c ∷ cs)) (requireAt T kind message (looped p (c .loops)) E N)
+  inner-stopping : (x y : Reply) → Agree (c ∷ cs) (named x (c ∷ cs)) y → Agree (c ∷ cs) (named (andThen x λ f q E N. reply q (Stop 1) E N) (c ∷ cs)) (andThen y λ f q E N. reply q (Stop 1) E N)
+  inner-stopping x y h = subst (λ (z : Named). Agree (c ∷ cs) z (andThen y λ f q E N. reply q (Stop 1) E N)) (inner x) (stopping h)
+
+  agree-require : (p : State) (T : View) (kind message : ℕ) (E N : List ℕ) → Agree (c ∷ cs) (named (requireAt T kind message p E N) (c ∷ cs)) (requireAt T kind message (looped p (c .loops)) E N)
   unfolding requireAt
-  agree-require T kind message E N = go (matchesAt T (p .current) kind)
-    where
-      go : (s : Seen) → Agree (c ∷ cs)
-          (named (ifSeen s (λ i. reply (moved p i) (Node (plain i)) E N) λ _. andThen (pushError T message (p .current) p E N) λ f q E N. reply q (Stop 1) E N) (c ∷ cs))
-          (ifSeen s (λ i. reply (moved (looped p (c .loops)) i) (Node (plain i)) E N) λ _. andThen (pushError T message (p .current) (looped p (c .loops)) E N) λ f q E N. reply q (Stop 1) E N)
-      go (At i) = nodes (moved p i) (plain i) E N (c .loops)
-      go Nothing =
-          subst (λ (x : Named). Agree (c ∷ cs) x (andThen (pushError T message (p .current) (looped p (c .loops)) E N) λ f q E N. reply q (Stop 1) E N)) (inner (pushError T message (p .current) p E N))
-          (stopping (agree-error T message (p .current) E N))
+  agree-require p T kind message E N =
+      inner-seen (matchesAt T (p .current) kind) _ _ _ _ (λ i. nodes _ _ E N (c .loops))
+      (inner-stopping _ _ (agree-error _ (T .tokens) message (p .current) E N))
 
 -- ---- the name on top is the one that was given
 same-name : (n : Name) → sameName n n ≡ true
@@ -101,21 +98,21 @@ agree-leave n c cs p (nodes q f E N k) =
 agree-leave n c cs p (stops q o E N ds k) = stops q o E N ds k
 
 -- ---- every program
-module _ (T : List ℕ) (a : Which → NamedReader) (low : Which → Reader) (h : (w : Which) → Agrees (a w) (low w)) where
+module _ (T : View) (a : Which → NamedReader) (low : Which → Reader) (h : (w : Which) → Agrees (a w) (low w)) where
   pub run-agrees : (P : Prog) → Agrees (runNamed T a P) (run T low P)
   unfolding runNamed run
   run-agrees (give f) c cs p E N = nodes p f E N (c .loops)
   run-agrees (stop o) c cs p E N = stops p o E N _ (c .loops)
   run-agrees (m >>= k) c cs p E N = agree-then c cs _ _ _ _ (run-agrees m c cs p E N) λ f. run-agrees (k f)
   run-agrees (m >> k) c cs p E N = agree-then c cs _ _ _ _ (run-agrees m c cs p E N) λ f. run-agrees k
-  run-agrees (look kind found missing) c cs p E N = agree-seen (c ∷ cs) (matchesAt T (p .current) kind) _ _ _ _ (λ i. run-agrees (found i) c cs (moved p i) E N) (run-agrees missing c cs p E N)
-  run-agrees (check kind found missing) c cs p E N = agree-seen (c ∷ cs) (checkAt T (p .current) kind) _ _ _ _ (λ i. run-agrees found c cs (moved p i) E N) (run-agrees missing c cs p E N)
-  run-agrees (atEnd found missing) c cs p E N = agree-either (c ∷ cs) (eqb (kindAt T (p .current)) 0) _ _ _ _ (run-agrees found c cs p E N) (run-agrees missing c cs p E N)
+  run-agrees (look kind found missing) c cs p E N = agree-seen (c ∷ cs) (matchesAt T (p .current) kind) _ _ _ _ (λ i. run-agrees (found i) c cs _ E N) (run-agrees missing c cs _ E N)
+  run-agrees (check kind found missing) c cs p E N = agree-seen (c ∷ cs) (checkAt T (p .current) kind) _ _ _ _ (λ i. run-agrees found c cs _ E N) (run-agrees missing c cs _ E N)
+  run-agrees (atEnd found missing) c cs p E N = agree-either (c ∷ cs) (eqb (kindAt (T .tokens) (p .current)) 0) _ _ _ _ (run-agrees found c cs p E N) (run-agrees missing c cs p E N)
   run-agrees previous c cs p E N = nodes p (plain (p .current)) E N (c .loops)
   run-agrees (node d) c cs p E N = agree-node c cs p d E N
   run-agrees (link prev next) c cs p E N = nodes p (plain 0) E (linked N prev next) (c .loops)
-  run-agrees (fail message) c cs p E N = agree-error c cs p T message (p .current) E N
-  run-agrees (failAt message token) c cs p E N = agree-error c cs p T message (token - 1) E N
+  run-agrees (fail message) c cs p E N = agree-error c cs p (T .tokens) message (p .current) E N
+  run-agrees (failAt message token) c cs p E N = agree-error c cs p (T .tokens) message (token - 1) E N
   run-agrees (consume kind message) c cs p E N = agree-consume c cs p T kind message E N
   run-agrees (require kind message) c cs p E N = agree-require c cs p T kind message E N
   run-agrees enterLoop c cs p E N = nodes p (plain 0) E N (raised (c .loops))
@@ -127,7 +124,7 @@ module _ (T : List ℕ) (a : Which → NamedReader) (low : Which → Reader) (h 
   run-agrees (down w) c cs p E N = h w c cs p E N
 
 -- every reading, at every level
-pub lower-agrees : (T : List ℕ) (l : ℕ) (w : Which) → Agrees (lowerNamed T l w) (lower T l w)
+pub lower-agrees : (T : View) (l : ℕ) (w : Which) → Agrees (lowerNamed T l w) (lower T l w)
 unfolding lowerNamed lower
 lower-agrees T zero w c cs p E N = stops p 8 E N _ (c .loops)
 lower-agrees T (suc l) w c cs p E N = run-agrees T (lowerNamed T l) (lower T l) (lower-agrees T l) (body T w) c cs p E N
@@ -137,5 +134,5 @@ agree-equal cs _ _ (nodes p f E N n) e = let z : _≡_ {A = ℕ} 0 1 = cc in abs
 agree-equal cs _ _ (stops p o E N ds n) e = let z : _≡_ {A = ℕ} 0 1 = cc in absurd (omega arith)
 
 -- the unequal-names branch of `leave_function` is unreachable
-pub never-unequal : (T : List ℕ) (l : ℕ) (w : Which) (c : Call) (cs : List Call) (p : State) (E N : List ℕ) → lowerNamed T l w p (c ∷ cs) E N ≡ unequal → ⊥
+pub never-unequal : (T : View) (l : ℕ) (w : Which) (c : Call) (cs : List Call) (p : State) (E N : List ℕ) → lowerNamed T l w p (c ∷ cs) E N ≡ unequal → ⊥
 never-unequal T l w c cs p E N = agree-equal (c ∷ cs) _ _ (lower-agrees T l w c cs p E N)

@@ -22,8 +22,8 @@ use Rattle.parser.specs.declared.Got.{Got}
 use Rattle.parser.specs.declared.Got.the-variants.{Node, Stop}
 use Rattle.parser.specs.declared.Seen.{Seen}
 use Rattle.parser.specs.declared.Seen.the-variants.{At, Nothing}
-use Rattle.parser.specs.Tokens.{count, kindAt, checkAt, matchesAt}
-use Rattle.parser.specs.Tables.{Reply, reply, moved, looped, freshState, errorAt, pushNode, pushError, ifSeen, andThen, consumeAt, requireAt}
+use Rattle.parser.specs.Tokens.{View, count, kindAt, checkAt, matchesAt}
+use Rattle.parser.specs.Tables.{Reply, reply, looped, freshState, errorAt, pushNode, pushError, ifSeen, andThen, consumeAt, requireAt}
 use Rattle.parser.specs.Programs.{Reader, Which, Declaration, Prog, give, stop, _>>=_, _>>_, look, check, atEnd, previous, node, link, fail, failAt, consume, require, enterLoop, leaveLoop, giveBack, insideLoop, inFunction, down, either, restored, run}
 use Rattle.parser.specs.Grammar.{firstOf, body, lower}
 use Rattle.parser.specs.Whole.{Parsed, ends, topLevel, orEnds, ifEnd, statements, parsed}
@@ -179,36 +179,36 @@ grown-push d p E N =
     (λ h. record { errors = errors-none (p .errors) E; nodes = nodes-put N (p .nodes) (nodeWords d) refl h })
     (grown-none p p (Stop 7) E N refl refl)
 
-grown-error : (T : List ℕ) (m i : ℕ) → Frames (pushError T m i)
-grown-error T m i p E N =
-    push-error (Grown (p .errors) E (p .nodes) N) T m i p E N
-    (λ h. record { errors = errors-put E (p .errors) (errorWords (errorAt T m i)) refl h; nodes = nodes-none (p .nodes) N })
+grown-error : (t : List ℕ) (m i : ℕ) → Frames (pushError t m i)
+grown-error t m i p E N =
+    push-error (Grown (p .errors) E (p .nodes) N) t m i p E N
+    (λ h. record { errors = errors-put E (p .errors) (errorWords (errorAt t m i)) refl h; nodes = nodes-none (p .nodes) N })
     (grown-none p p (Stop 6) E N refl refl)
 
-pub grown-consume : (T : List ℕ) (kind m : ℕ) → Frames (consumeAt T kind m)
+pub grown-consume : (T : View) (kind m : ℕ) → Frames (consumeAt T kind m)
 unfolding consumeAt
-grown-consume T kind m p E N = grown-seen _ _ _ _ (matchesAt T (p .current) kind) _ _ (λ i. grown-none p (moved p i) _ E N refl refl) (grown-error T m (p .current) p E N)
+grown-consume T kind m p E N = grown-seen _ _ _ _ (matchesAt T (p .current) kind) _ _ (λ i. grown-none p _ _ E N refl refl) (grown-error (T .tokens) m (p .current) _ E N)
 
-grown-require : (T : List ℕ) (kind m : ℕ) → Frames (requireAt T kind m)
+grown-require : (T : View) (kind m : ℕ) → Frames (requireAt T kind m)
 unfolding requireAt
-grown-require T kind m p E N = grown-seen _ _ _ _ (matchesAt T (p .current) kind) _ _ (λ i. grown-none p (moved p i) _ E N refl refl) (grown-then _ _ _ _ _ _ (grown-error T m (p .current) p E N) λ f q E N. grown-none q q (Stop 1) E N refl refl)
+grown-require T kind m p E N = grown-seen _ _ _ _ (matchesAt T (p .current) kind) _ _ (λ i. grown-none p _ _ E N refl refl) (grown-then _ _ _ _ _ _ (grown-error (T .tokens) m (p .current) _ E N) λ f q E N. grown-none q q (Stop 1) E N refl refl)
 
 -- ---- every program
-module _ (T : List ℕ) (low : Which → Reader) (h : (w : Which) → Frames (low w)) where
+module _ (T : View) (low : Which → Reader) (h : (w : Which) → Frames (low w)) where
   pub run-frames : (P : Prog) → Frames (run T low P)
   unfolding run
   run-frames (give f) p E N = grown-none p p _ E N refl refl
   run-frames (stop o) p E N = grown-none p p _ E N refl refl
   run-frames (m >>= k) p E N = grown-then _ _ _ _ _ _ (run-frames m p E N) λ f. run-frames (k f)
   run-frames (m >> k) p E N = grown-then _ _ _ _ _ _ (run-frames m p E N) λ f. run-frames k
-  run-frames (look kind found missing) p E N = grown-seen _ _ _ _ (matchesAt T (p .current) kind) _ _ (λ i. run-frames (found i) (moved p i) E N) (run-frames missing p E N)
-  run-frames (check kind found missing) p E N = grown-seen _ _ _ _ (checkAt T (p .current) kind) _ _ (λ i. run-frames found (moved p i) E N) (run-frames missing p E N)
-  run-frames (atEnd found missing) p E N = grown-either _ _ _ _ (eqb (kindAt T (p .current)) 0) _ _ (run-frames found p E N) (run-frames missing p E N)
+  run-frames (look kind found missing) p E N = grown-seen _ _ _ _ (matchesAt T (p .current) kind) _ _ (λ i. run-frames (found i) _ E N) (run-frames missing _ E N)
+  run-frames (check kind found missing) p E N = grown-seen _ _ _ _ (checkAt T (p .current) kind) _ _ (λ i. run-frames found _ E N) (run-frames missing _ E N)
+  run-frames (atEnd found missing) p E N = grown-either _ _ _ _ (eqb (kindAt (T .tokens) (p .current)) 0) _ _ (run-frames found p E N) (run-frames missing p E N)
   run-frames previous p E N = grown-none p p _ E N refl refl
   run-frames (node d) p E N = grown-push d p E N
   run-frames (link prev next) p E N = record { errors = errors-none (p .errors) E; nodes = nodes-linked (p .nodes) N prev next }
-  run-frames (fail message) p E N = grown-error T message (p .current) p E N
-  run-frames (failAt message token) p E N = grown-error T message (token - 1) p E N
+  run-frames (fail message) p E N = grown-error (T .tokens) message (p .current) p E N
+  run-frames (failAt message token) p E N = grown-error (T .tokens) message (token - 1) p E N
   run-frames (consume kind message) p E N = grown-consume T kind message p E N
   run-frames (require kind message) p E N = grown-require T kind message p E N
   run-frames enterLoop p E N = grown-none p _ _ E N refl refl
@@ -218,7 +218,7 @@ module _ (T : List ℕ) (low : Which → Reader) (h : (w : Which) → Frames (lo
   run-frames (inFunction name m) p E N = grown-restored _ _ _ _ p _ (run-frames m (looped p 0) E N)
   run-frames (down w) p E N = h w p E N
 
-pub lower-frames : (T : List ℕ) (l : ℕ) (w : Which) → Frames (lower T l w)
+pub lower-frames : (T : View) (l : ℕ) (w : Which) → Frames (lower T l w)
 unfolding lower
 lower-frames T zero w p E N = grown-none p p (Stop 8) E N refl refl
 lower-frames T (suc l) w p E N = run-frames T (lower T l) (lower-frames T l) (body T w) p E N
@@ -287,27 +287,27 @@ ended-if a E b N true f g h k = h
 ended-if a E b N false f g h k = k
 
 -- a top-level statement, and all of them
-pub top-frames : (T : List ℕ) → Frames (topLevel T)
+pub top-frames : (T : View) → Frames (topLevel T)
 unfolding topLevel
 top-frames T p E N = grown-then _ _ _ _ _ _ (lower-frames T 128 Declaration p E N) λ f q E N. grown-then _ _ _ _ _ _ (grown-consume T Newline 4 q E N) λ g r E N. grown-none r r (Node f) E N refl refl
 
-ended-now : (o first : ℕ) (p : State) (E N : List ℕ) → Ended (p .errors) E (p .nodes) N (ends o first (p .nodes) (p .errors) E N)
+ended-now : (o first : ℕ) (p : State) (E N : List ℕ) → Ended (p .errors) E (p .nodes) N (ends o first (p .nodes) p E N)
 ended-now o first p E N = record { errors = errors-none (p .errors) E; nodes = nodes-end (p .nodes) (p .nodes) N N (nodes-none (p .nodes) N) }
 
-pub statements-end : (f : ℕ) (T : List ℕ) (first last : ℕ) (p : State) (E N : List ℕ) → Ended (p .errors) E (p .nodes) N (statements f T first last p E N)
+pub statements-end : (f : ℕ) (T : View) (first last : ℕ) (p : State) (E N : List ℕ) → Ended (p .errors) E (p .nodes) N (statements f T first last p E N)
 unfolding statements
 statements-end zero T first last p E N = ended-now 99 first p E N
 statements-end (suc f) T first last p E N =
-    ended-if _ _ _ _ (eqb (kindAt T (p .current)) 0) _ _ (ended-now 0 first p E N)
+    ended-if _ _ _ _ (eqb (kindAt (T .tokens) (p .current)) 0) _ _ (ended-now 0 first p E N)
     (ended-or _ _ _ _ first _ _ (top-frames T p E N) λ n q F M.
     ended-on (q .errors) (q .nodes) (q .errors) (q .nodes) F F M (linked M last n) _ (errors-none (q .errors) F) (nodes-linked (q .nodes) M last n)
     (statements-end f T (firstOf first n) n q F (linked M last n)))
 
 -- by any rule, for any tokens, tables and number of errors before
-module _ (rule : ℕ) (T : List ℕ) (errors : ℕ) (E N : List ℕ) where
+module _ (rule : ℕ) (T : View) (errors : ℕ) (E N : List ℕ) where
   pub parsed-frame : Ended errors E 0 N (parsed rule T errors E N)
   unfolding parsed
-  parsed-frame = statements-end (suc (count T)) T 0 0 (freshState rule errors) E N
+  parsed-frame = statements-end (suc (count (T .tokens))) T 0 0 (freshState rule errors) E N
 
   -- the errors from before are kept, none is taken away, and behind the last one the table is as it was
   pub parsed-errors-kept : ErrorsGrow errors E (parsed rule T errors E N .errorCount) (parsed rule T errors E N .errors)

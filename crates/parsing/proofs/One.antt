@@ -1,5 +1,5 @@
 -- Whatever a promise over an answer and the tables allows is one answer and one pair of tables. Assumes nothing.
-use mathlib.Core.Path.{_≡_, refl, sym, ap, _∙_}
+use mathlib.Core.Path.{_≡_, sym, ap, _∙_}
 use mathlib.Core.List.{List, []}
 use Prim.Native.Nat.{ℕ}
 use Rattle.parser.specs.declared.State.{State}

@@ -18,8 +18,8 @@ use Rattle.parser.specs.declared.State.{State}
 use Rattle.parser.specs.declared.Found.{Found}
 use Rattle.parser.specs.declared.Got.the-variants.{Node, Stop}
 use Rattle.parser.specs.declared.Seen.{Seen}
-use Rattle.parser.specs.Tokens.{count, kindAt}
-use Rattle.parser.specs.Tables.{Reply, reply, moved, looped, freshState, errorAt, pushNode, pushError, ifSeen, andThen, consumeAt, requireAt}
+use Rattle.parser.specs.Tokens.{View, count, kindAt, walked}
+use Rattle.parser.specs.Tables.{Reply, reply, looped, freshState, errorAt, pushNode, pushError, ifSeen, andThen, consumeAt, requireAt}
 use Rattle.parser.specs.Programs.{Reader, Which, Declaration, Prog, give, stop, _>>=_, _>>_, look, check, atEnd, previous, node, link, fail, failAt, consume, require, enterLoop, leaveLoop, giveBack, insideLoop, inFunction, down, either, restored, run}
 use Rattle.parser.specs.Grammar.{firstOf, body, lower}
 use Rattle.parser.specs.Whole.{Parsed, topLevel, orEnds, ifEnd, statements, parsed}
@@ -29,14 +29,11 @@ use Rattle.parsing.specs.Places.{isParsers, About}
 use Rattle.parsing.proofs.Ahead.{Kept, agree-self, Spotted, spot, none, check-ahead, matches-ahead, body-kept}
 use Rattle.parsing.proofs.Frame.{stateOf, errorsOf}
 
--- token e is an EOF; a errors were there before
-module _ (T : List ℕ) (e a : ℕ) (end : kindAt T e ≡ EOF) where
-  same : Agree e T T
-  same = agree-self T e end
-
+-- token e is an EOF that no reading passes; a errors were there before
+module _ (T : View) (e a : ℕ) (same : Agree e T T) where
   -- the errors from a on, of n, are about tokens up to e
   abbrev Placed : ℕ → List ℕ → Type 0
-  Placed n E = (k : ℕ) → a ≤ k → k < n → About T e E k
+  Placed n E = (k : ℕ) → a ≤ k → k < n → About (T .tokens) e E k
 
   -- an answer whose errors are, with the cursor at or before e
   record Fine (r : Reply) : Type 0 where
@@ -50,12 +47,12 @@ module _ (T : List ℕ) (e a : ℕ) (end : kindAt T e ≡ EOF) where
   -- ---- one error more
   module _ (E : List ℕ) (n m i : ℕ) (h : n < room errorWidth E) where
     abbrev more : List ℕ
-    more = put errorWidth E n (errorWords (errorAt T m i))
+    more = put errorWidth E n (errorWords (errorAt (T .tokens) m i))
 
     -- the new one
-    about-new : dec.T (isParsers m) → i ≤ e → About T e more n
+    about-new : dec.T (isParsers m) → i ≤ e → About (T .tokens) e more n
     about-new g l =
-        let ws = errorWords (errorAt T m i) in
+        let ws = errorWords (errorAt (T .tokens) m i) in
         let f : field errorWidth 0 more n ≡ m = field-put errorWidth 0 E n ws refl (omega arith) h in
         let b : 4 ≤ m = leb→le 4 m (and-l (leb 4 m) (leb m 29) g) in
         let c : m ≤ 29 = leb→le m 29 (and-r (leb 4 m) (leb m 29) g) in
@@ -69,9 +66,9 @@ module _ (T : List ℕ) (e a : ℕ) (end : kindAt T e ≡ EOF) where
         }
 
     -- one of before
-    about-old : (k : ℕ) → (k ≡ n → ⊥) → About T e E k → About T e more k
+    about-old : (k : ℕ) → (k ≡ n → ⊥) → About (T .tokens) e E k → About (T .tokens) e more k
     about-old k ne x =
-        let ws = errorWords (errorAt T m i) in
+        let ws = errorWords (errorAt (T .tokens) m i) in
         let f : field errorWidth 0 more k ≡ field errorWidth 0 E k = field-other errorWidth 0 E n ws refl (omega arith) k ne in
         let b = x .message-from in
         let c = x .message-to in
@@ -87,7 +84,7 @@ module _ (T : List ℕ) (e a : ℕ) (end : kindAt T e ≡ EOF) where
     placed-more : dec.T (isParsers m) → i ≤ e → Placed n E → Placed (n + 1) more
     placed-more g l x k f b =
         ⊎-elim (λ c. about-old k (λ q. omega (arith, q, c)) (x k f c))
-        (λ c. let q : n ≡ k = omega arith in subst (λ (j : ℕ). About T e more j) q (about-new g l))
+        (λ c. let q : n ≡ k = omega arith in subst (λ (j : ℕ). About (T .tokens) e more j) q (about-new g l))
         (lt-or-le k n)
 
   -- ---- steps of a reading
@@ -110,18 +107,18 @@ module _ (T : List ℕ) (e a : ℕ) (end : kindAt T e ≡ EOF) where
   fine-push : (d : rows.Node) → Places (pushNode d)
   fine-push d p E N l x = push-node Fine d p E N (λ h. record { at = l; errors = x }) (record { at = l; errors = x })
 
-  fine-error : (m i : ℕ) → dec.T (isParsers m) → i ≤ e → Places (pushError T m i)
-  fine-error m i g h p E N l x = push-error Fine T m i p E N (λ r. record { at = l; errors = placed-more E (p .errors) m i r g h x }) (record { at = l; errors = x })
+  fine-error : (m i : ℕ) → dec.T (isParsers m) → i ≤ e → Places (pushError (T .tokens) m i)
+  fine-error m i g h p E N l x = push-error Fine (T .tokens) m i p E N (λ r. record { at = l; errors = placed-more E (p .errors) m i r g h x }) (record { at = l; errors = x })
 
   fine-consume : (kind m : ℕ) → dec.T (isParsers m) → Places (consumeAt T kind m)
   unfolding consumeAt
-  fine-consume kind m g p E N l x = fine-seen _ _ (matches-ahead T T e same (p .current) kind l) (λ i h. record { at = h; errors = x }) (fine-error m (p .current) g l p E N l x)
+  fine-consume kind m g p E N l x = fine-seen _ _ (matches-ahead T T e same (p .current) kind l) (λ i h. record { at = h; errors = x }) (fine-error m (p .current) g l _ E N l x)
 
   fine-require : (kind m : ℕ) → dec.T (isParsers m) → Places (requireAt T kind m)
   unfolding requireAt
   fine-require kind m g p E N l x =
       fine-seen _ _ (matches-ahead T T e same (p .current) kind l) (λ i h. record { at = h; errors = x })
-      (fine-then _ _ (fine-error m (p .current) g l p E N l x) λ f q E N h y. record { at = h; errors = y })
+      (fine-then _ _ (fine-error m (p .current) g l _ E N l x) λ f q E N h y. record { at = h; errors = y })
 
   -- ---- every program
   module _ (low : Which → Reader) (down-fine : (w : Which) → Places (low w)) where
@@ -131,9 +128,9 @@ module _ (T : List ℕ) (e a : ℕ) (end : kindAt T e ≡ EOF) where
     run-fine (stop o) k p E N l x = record { at = l; errors = x }
     run-fine (m >>= n) k p E N l x = fine-then _ _ (run-fine m (k .0) p E N l x) λ f. run-fine (n f) (k .1 f)
     run-fine (m >> n) k p E N l x = fine-then _ _ (run-fine m (k .0) p E N l x) λ f. run-fine n (k .1)
-    run-fine (look kind found missing) k p E N l x = fine-seen _ _ (matches-ahead T T e same (p .current) kind l) (λ i h. run-fine (found i) (k .0 i h) (moved p i) E N h x) (run-fine missing (k .1) p E N l x)
-    run-fine (check kind found missing) k p E N l x = fine-seen _ _ (check-ahead T T e same (p .current) kind l) (λ i h. run-fine found (k .0) (moved p i) E N h x) (run-fine missing (k .1) p E N l x)
-    run-fine (atEnd found missing) k p E N l x = fine-either (eqb (kindAt T (p .current)) 0) _ _ (run-fine found (k .0) p E N l x) (run-fine missing (k .1) p E N l x)
+    run-fine (look kind found missing) k p E N l x = fine-seen _ _ (matches-ahead T T e same (p .current) kind l) (λ i h. run-fine (found i) (k .0 i h) _ E N h x) (run-fine missing (k .1) _ E N l x)
+    run-fine (check kind found missing) k p E N l x = fine-seen _ _ (check-ahead T T e same (p .current) kind l) (λ i h. run-fine found (k .0) _ E N h x) (run-fine missing (k .1) _ E N l x)
+    run-fine (atEnd found missing) k p E N l x = fine-either (eqb (kindAt (T .tokens) (p .current)) 0) _ _ (run-fine found (k .0) p E N l x) (run-fine missing (k .1) p E N l x)
     run-fine previous k p E N l x = record { at = l; errors = x }
     run-fine (node d) k p E N l x = fine-push d p E N l x
     run-fine (link prev next) k p E N l x = record { at = l; errors = x }
@@ -170,10 +167,10 @@ module _ (T : List ℕ) (e a : ℕ) (end : kindAt T e ≡ EOF) where
   unfolding statements
   statements-placed zero first last p E N l x = x
   statements-placed (suc n) first last p E N l x =
-      placed-if (eqb (kindAt T (p .current)) 0) _ _ x
+      placed-if (eqb (kindAt (T .tokens) (p .current)) 0) _ _ x
       (placed-or first (p .nodes) _ _ (top-fine p E N l x) λ m q E N h y. statements-placed n (firstOf first m) m q E (linked N last m) h y)
 
 -- every error that a parsing adds to those of before is about one of the tokens up to an EOF
-pub parsed-about : (rule : ℕ) (T : List ℕ) (e : ℕ) → kindAt T e ≡ EOF → (errors : ℕ) (E N : List ℕ) (k : ℕ) → errors ≤ k → k < parsed rule T errors E N .errorCount → About T e (parsed rule T errors E N .errors) k
+pub parsed-about : (rule : ℕ) (t : List ℕ) (e : ℕ) → kindAt t e ≡ EOF → (errors : ℕ) (E N : List ℕ) (k : ℕ) → errors ≤ k → k < parsed rule (walked t) errors E N .errorCount → About t e (parsed rule (walked t) errors E N .errors) k
 unfolding parsed
-parsed-about rule T e end errors E N = statements-placed T e errors end (suc (count T)) 0 0 (freshState rule errors) E N (omega arith) λ k f b. absurd (omega (arith, f, b))
+parsed-about rule t e end errors E N = statements-placed (walked t) e errors (agree-self t e end) (suc (count t)) 0 0 (freshState rule errors) E N (omega arith) λ k f b. absurd (omega (arith, f, b))

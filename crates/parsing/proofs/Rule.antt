@@ -13,8 +13,8 @@ use Rattle.parser.specs.declared.Found.{Found}
 use Rattle.parser.specs.declared.Got.the-variants.{Node, Stop}
 use Rattle.parser.specs.declared.Seen.{Seen}
 use Rattle.parser.specs.declared.Seen.the-variants.{At, Nothing}
-use Rattle.parser.specs.Tokens.{kindAt, checkAt, matchesAt}
-use Rattle.parser.specs.Tables.{Reply, reply, moved, looped, plain, pushNode, pushError, ifSeen, andThen, consumeAt, requireAt}
+use Rattle.parser.specs.Tokens.{View, kindAt, checkAt, matchesAt}
+use Rattle.parser.specs.Tables.{Reply, reply, looped, plain, pushNode, pushError, ifSeen, andThen, consumeAt, requireAt}
 use Rattle.parser.specs.Programs.{Reader, Which, Declaration, Prog, give, stop, _>>=_, _>>_, look, check, atEnd, previous, node, link, fail, failAt, consume, require, enterLoop, leaveLoop, giveBack, insideLoop, inFunction, down, either, restored, run}
 use Rattle.parser.specs.Nodes.{enhancedForRow}
 use Rattle.parser.specs.Grammar.{expression, fuel, namesFrom, enhancedFor, body, lower}
@@ -49,35 +49,35 @@ module _ (rule : ℕ) where
 node-ruled : (d : rows.Node) → Keeps (pushNode d)
 node-ruled d p E N = push-node (Ruled (p .rule)) d p E N (λ h. record { rule-is = refl }) (record { rule-is = refl })
 
-error-ruled : (T : List ℕ) (m i : ℕ) → Keeps (pushError T m i)
-error-ruled T m i p E N = push-error (Ruled (p .rule)) T m i p E N (λ h. record { rule-is = refl }) (record { rule-is = refl })
+error-ruled : (t : List ℕ) (m i : ℕ) → Keeps (pushError t m i)
+error-ruled t m i p E N = push-error (Ruled (p .rule)) t m i p E N (λ h. record { rule-is = refl }) (record { rule-is = refl })
 
-consume-ruled : (T : List ℕ) (kind m : ℕ) → Keeps (consumeAt T kind m)
+consume-ruled : (T : View) (kind m : ℕ) → Keeps (consumeAt T kind m)
 unfolding consumeAt
-consume-ruled T kind m p E N = seen-ruled (p .rule) (matchesAt T (p .current) kind) _ _ (λ i. record { rule-is = refl }) (error-ruled T m (p .current) p E N)
+consume-ruled T kind m p E N = seen-ruled (p .rule) (matchesAt T (p .current) kind) _ _ (λ i. record { rule-is = refl }) (error-ruled (T .tokens) m (p .current) _ E N)
 
-require-ruled : (T : List ℕ) (kind m : ℕ) → Keeps (requireAt T kind m)
+require-ruled : (T : View) (kind m : ℕ) → Keeps (requireAt T kind m)
 unfolding requireAt
 require-ruled T kind m p E N =
     seen-ruled (p .rule) (matchesAt T (p .current) kind) _ _ (λ i. record { rule-is = refl })
-    (then-ruled (p .rule) (pushError T m (p .current) p E N) _ (error-ruled T m (p .current) p E N) λ f q E N. record { rule-is = refl })
+    (then-ruled (p .rule) _ _ (error-ruled (T .tokens) m (p .current) _ E N) λ f q E N. record { rule-is = refl })
 
 -- ---- every program
-module _ (T : List ℕ) (low : Which → Reader) (h : (w : Which) → Keeps (low w)) where
+module _ (T : View) (low : Which → Reader) (h : (w : Which) → Keeps (low w)) where
   run-ruled : (P : Prog) → Keeps (run T low P)
   unfolding run
   run-ruled (give f) p E N = record { rule-is = refl }
   run-ruled (stop o) p E N = record { rule-is = refl }
   run-ruled (m >>= k) p E N = then-ruled (p .rule) (run T low m p E N) _ (run-ruled m p E N) λ f. run-ruled (k f)
   run-ruled (m >> k) p E N = then-ruled (p .rule) (run T low m p E N) _ (run-ruled m p E N) λ f. run-ruled k
-  run-ruled (look kind found missing) p E N = seen-ruled (p .rule) (matchesAt T (p .current) kind) _ _ (λ i. run-ruled (found i) (moved p i) E N) (run-ruled missing p E N)
-  run-ruled (check kind found missing) p E N = seen-ruled (p .rule) (checkAt T (p .current) kind) _ _ (λ i. run-ruled found (moved p i) E N) (run-ruled missing p E N)
-  run-ruled (atEnd found missing) p E N = either-ruled (p .rule) (eqb (kindAt T (p .current)) 0) _ _ (run-ruled found p E N) (run-ruled missing p E N)
+  run-ruled (look kind found missing) p E N = seen-ruled (p .rule) (matchesAt T (p .current) kind) _ _ (λ i. run-ruled (found i) _ E N) (run-ruled missing _ E N)
+  run-ruled (check kind found missing) p E N = seen-ruled (p .rule) (checkAt T (p .current) kind) _ _ (λ i. run-ruled found _ E N) (run-ruled missing _ E N)
+  run-ruled (atEnd found missing) p E N = either-ruled (p .rule) (eqb (kindAt (T .tokens) (p .current)) 0) _ _ (run-ruled found p E N) (run-ruled missing p E N)
   run-ruled previous p E N = record { rule-is = refl }
   run-ruled (node d) p E N = node-ruled d p E N
   run-ruled (link prev next) p E N = record { rule-is = refl }
-  run-ruled (fail message) p E N = error-ruled T message (p .current) p E N
-  run-ruled (failAt message token) p E N = error-ruled T message (token - 1) p E N
+  run-ruled (fail message) p E N = error-ruled (T .tokens) message (p .current) p E N
+  run-ruled (failAt message token) p E N = error-ruled (T .tokens) message (token - 1) p E N
   run-ruled (consume kind message) p E N = consume-ruled T kind message p E N
   run-ruled (require kind message) p E N = require-ruled T kind message p E N
   run-ruled enterLoop p E N = record { rule-is = refl }
@@ -87,13 +87,13 @@ module _ (T : List ℕ) (low : Which → Reader) (h : (w : Which) → Keeps (low
   run-ruled (inFunction name m) p E N = restored-ruled (p .rule) p _ (run-ruled m (looped p 0) E N)
   run-ruled (down w) p E N = h w p E N
 
-lower-ruled : (T : List ℕ) (l : ℕ) (w : Which) → Keeps (lower T l w)
+lower-ruled : (T : View) (l : ℕ) (w : Which) → Keeps (lower T l w)
 unfolding lower
 lower-ruled T zero w p E N = record { rule-is = refl }
 lower-ruled T (suc l) w p E N = run-ruled T (lower T l) (lower-ruled T l) (body T w) p E N
 
 -- a top-level statement is read by the rule that the next one is read by
-pub top-ruled : (T : List ℕ) (p : State) (E N : List ℕ) → Ruled (p .rule) (topLevel T p E N)
+pub top-ruled : (T : View) (p : State) (E N : List ℕ) → Ruled (p .rule) (topLevel T p E N)
 unfolding topLevel
 top-ruled T p E N =
     then-ruled (p .rule) (lower T 128 Declaration p E N) _ (lower-ruled T 128 Declaration p E N) λ f q E N.
@@ -105,7 +105,7 @@ then-one : (r : Reply) (j k : Found → Reader) → Ruled one r → ((f : Found)
 then-one (reply q (Node f) E N) j k h g = g f q E N (h .rule-is)
 then-one (reply q (Stop o) E N) j k h g = refl
 
-module _ (T : List ℕ) (l : ℕ) where
+module _ (T : View) (l : ℕ) where
   abbrev low : Which → Reader
   low = lower T l
 

@@ -3,11 +3,11 @@ use mathlib.Core.Path.{_≡_, refl}
 use mathlib.Core.List.{List, [], _∷_}
 use Prim.Native.Nat.{ℕ, zero, suc}
 use Rattle.parser.specs.declared.Found.{Found}
-use Rattle.parser.specs.Tokens.{count}
+use Rattle.parser.specs.Tokens.{View, count}
 use Rattle.parser.specs.Programs.{Which, Declaration, Assignment, Operand, Prog}
 use Rattle.parser.specs.Grammar.{Level, levels, blockFrom, block, expressionStmt, parametersFrom, parameters, functionBody, fnStmt, fnExpr, methodsFrom, class, letStmt, namesFrom, enhancedFor, classicFor, forLoop, tryCatch, elifsFrom, elseFrom, ifStmt, ret, brk, cont, whileStmt, statement, declaration, argumentsFrom, arguments, list, dictElementsFrom, dictionary, closed, access, superExpr, primary, finishCall, callFrom, call, unary, lookMany, binaryFrom, binary, assignment, body}
 
-module _ (T T′ : List ℕ) (c : count T ≡ count T′) where
+module _ (T T′ : View) (c : count (T .tokens) ≡ count (T′ .tokens)) where
   block-from-same : (f first last : ℕ) → blockFrom T f first last ≡ blockFrom T′ f first last
   unfolding blockFrom
   block-from-same zero first last = refl

@@ -20,8 +20,8 @@ use Rattle.parser.specs.declared.Got.{Got}
 use Rattle.parser.specs.declared.Got.the-variants.{Node, Stop}
 use Rattle.parser.specs.declared.Seen.{Seen}
 use Rattle.parser.specs.declared.Seen.the-variants.{At, Nothing}
-use Rattle.parser.specs.Tokens.{count, kindAt, checkAt, matchesAt}
-use Rattle.parser.specs.Tables.{Reply, reply, moved, looped, freshState, errorAt, pushNode, pushError, ifSeen, andThen, consumeAt, requireAt}
+use Rattle.parser.specs.Tokens.{View, count, kindAt, checkAt, matchesAt}
+use Rattle.parser.specs.Tables.{Reply, reply, looped, freshState, errorAt, pushNode, pushError, ifSeen, andThen, consumeAt, requireAt}
 use Rattle.parser.specs.Programs.{Reader, Which, Declaration, Prog, give, stop, _>>=_, _>>_, look, check, atEnd, previous, node, link, fail, failAt, consume, require, enterLoop, leaveLoop, giveBack, insideLoop, inFunction, down, either, restored, run}
 use Rattle.parser.specs.Grammar.{firstOf, body, lower}
 use Rattle.parser.specs.Whole.{Parsed, ends, topLevel, orEnds, ifEnd, statements, parsed}
@@ -94,11 +94,11 @@ push-same d p E N E′ N′ h =
     same _ _ _ _ _ _ a)
     (same _ _ _ _ _ _ h)
 
-error-same : (T : List ℕ) (m i : ℕ) → Sized (pushError T m i)
-error-same T m i p E N E′ N′ h =
-    push-errors Same T T m i p p E N E′ N′ refl (room-length errorWidth E E′ (h .errors-long))
+error-same : (t : List ℕ) (m i : ℕ) → Sized (pushError t m i)
+error-same t m i p E N E′ N′ h =
+    push-errors Same t t m i p p E N E′ N′ refl (room-length errorWidth E E′ (h .errors-long))
     (λ l.
-    let ws = errorWords (errorAt T m i) in
+    let ws = errorWords (errorAt t m i) in
     let a : Alike (p .errors + 1) (p .nodes) (put errorWidth E (p .errors) ws) N (put errorWidth E′ (p .errors) ws) N′ = record {
       errors-long = put-long errorWidth E E′ (p .errors) ws refl (h .errors-long);
       nodes-long = h .nodes-long;
@@ -108,30 +108,30 @@ error-same T m i p E N E′ N′ h =
     same _ _ _ _ _ _ a)
     (same _ _ _ _ _ _ h)
 
-consume-same : (T : List ℕ) (kind m : ℕ) → Sized (consumeAt T kind m)
+consume-same : (T : View) (kind m : ℕ) → Sized (consumeAt T kind m)
 unfolding consumeAt
-consume-same T kind m p E N E′ N′ a = same-seen (matchesAt T (p .current) kind) _ _ _ _ (λ i. same (moved p i) _ E N E′ N′ a) (error-same T m (p .current) p E N E′ N′ a)
+consume-same T kind m p E N E′ N′ a = same-seen (matchesAt T (p .current) kind) _ _ _ _ (λ i. same _ _ E N E′ N′ a) (error-same (T .tokens) m (p .current) _ E N E′ N′ a)
 
-require-same : (T : List ℕ) (kind m : ℕ) → Sized (requireAt T kind m)
+require-same : (T : View) (kind m : ℕ) → Sized (requireAt T kind m)
 unfolding requireAt
-require-same T kind m p E N E′ N′ a = same-seen (matchesAt T (p .current) kind) _ _ _ _ (λ i. same (moved p i) _ E N E′ N′ a) (same-then _ (error-same T m (p .current) p E N E′ N′ a) λ f q E N E′ N′ b. same q (Stop 1) E N E′ N′ b)
+require-same T kind m p E N E′ N′ a = same-seen (matchesAt T (p .current) kind) _ _ _ _ (λ i. same _ _ E N E′ N′ a) (same-then _ (error-same (T .tokens) m (p .current) _ E N E′ N′ a) λ f q E N E′ N′ b. same q (Stop 1) E N E′ N′ b)
 
 -- ---- every program
-module _ (T : List ℕ) (low : Which → Reader) (h : (w : Which) → Sized (low w)) where
+module _ (T : View) (low : Which → Reader) (h : (w : Which) → Sized (low w)) where
   pub run-sized : (P : Prog) → Sized (run T low P)
   unfolding run
   run-sized (give f) p E N E′ N′ a = same p _ E N E′ N′ a
   run-sized (stop o) p E N E′ N′ a = same p _ E N E′ N′ a
   run-sized (m >>= k) p E N E′ N′ a = same-then _ (run-sized m p E N E′ N′ a) λ f. run-sized (k f)
   run-sized (m >> k) p E N E′ N′ a = same-then _ (run-sized m p E N E′ N′ a) λ f. run-sized k
-  run-sized (look kind found missing) p E N E′ N′ a = same-seen (matchesAt T (p .current) kind) _ _ _ _ (λ i. run-sized (found i) (moved p i) E N E′ N′ a) (run-sized missing p E N E′ N′ a)
-  run-sized (check kind found missing) p E N E′ N′ a = same-seen (checkAt T (p .current) kind) _ _ _ _ (λ i. run-sized found (moved p i) E N E′ N′ a) (run-sized missing p E N E′ N′ a)
-  run-sized (atEnd found missing) p E N E′ N′ a = same-either (eqb (kindAt T (p .current)) 0) _ _ _ _ (run-sized found p E N E′ N′ a) (run-sized missing p E N E′ N′ a)
+  run-sized (look kind found missing) p E N E′ N′ a = same-seen (matchesAt T (p .current) kind) _ _ _ _ (λ i. run-sized (found i) _ E N E′ N′ a) (run-sized missing _ E N E′ N′ a)
+  run-sized (check kind found missing) p E N E′ N′ a = same-seen (checkAt T (p .current) kind) _ _ _ _ (λ i. run-sized found _ E N E′ N′ a) (run-sized missing _ E N E′ N′ a)
+  run-sized (atEnd found missing) p E N E′ N′ a = same-either (eqb (kindAt (T .tokens) (p .current)) 0) _ _ _ _ (run-sized found p E N E′ N′ a) (run-sized missing p E N E′ N′ a)
   run-sized previous p E N E′ N′ a = same p _ E N E′ N′ a
   run-sized (node d) p E N E′ N′ a = push-same d p E N E′ N′ a
   run-sized (link prev next) p E N E′ N′ a = same p _ _ _ _ _ (linked-same _ _ _ _ _ _ prev next a)
-  run-sized (fail message) p E N E′ N′ a = error-same T message (p .current) p E N E′ N′ a
-  run-sized (failAt message token) p E N E′ N′ a = error-same T message (token - 1) p E N E′ N′ a
+  run-sized (fail message) p E N E′ N′ a = error-same (T .tokens) message (p .current) p E N E′ N′ a
+  run-sized (failAt message token) p E N E′ N′ a = error-same (T .tokens) message (token - 1) p E N E′ N′ a
   run-sized (consume kind message) p E N E′ N′ a = consume-same T kind message p E N E′ N′ a
   run-sized (require kind message) p E N E′ N′ a = require-same T kind message p E N E′ N′ a
   run-sized enterLoop p E N E′ N′ a = same _ _ E N E′ N′ a
@@ -141,12 +141,12 @@ module _ (T : List ℕ) (low : Which → Reader) (h : (w : Which) → Sized (low
   run-sized (inFunction name m) p E N E′ N′ a = same-restored p (run-sized m (looped p 0) E N E′ N′ a)
   run-sized (down w) p E N E′ N′ a = h w p E N E′ N′ a
 
-pub lower-sized : (T : List ℕ) (l : ℕ) (w : Which) → Sized (lower T l w)
+pub lower-sized : (T : View) (l : ℕ) (w : Which) → Sized (lower T l w)
 unfolding lower
 lower-sized T zero w p E N E′ N′ a = same p (Stop 8) E N E′ N′ a
 lower-sized T (suc l) w p E N E′ N′ a = run-sized T (lower T l) (lower-sized T l) (body T w) p E N E′ N′ a
 
-pub top-sized : (T : List ℕ) → Sized (topLevel T)
+pub top-sized : (T : View) → Sized (topLevel T)
 unfolding topLevel
 top-sized T p E N E′ N′ a = same-then _ (lower-sized T 128 Declaration p E N E′ N′ a) λ f q E N E′ N′ b. same-then _ (consume-same T Newline 4 q E N E′ N′ b) λ g r E N E′ N′ c. same r (Node f) E N E′ N′ c
 
@@ -157,6 +157,7 @@ pub record SameParsed (a b : Parsed) : Type 0 where
   pub errorCount : a .errorCount ≡ b .errorCount
   pub nodeCount : a .nodeCount ≡ b .nodeCount
   pub first : a .first ≡ b .first
+  pub looks : a .looks ≡ b .looks
   pub errors-long : length (a .errors) ≡ length (b .errors)
   pub errors-same : take (errorWidth * a .errorCount) (a .errors) ≡ take (errorWidth * a .errorCount) (b .errors)
   pub nodes : a .nodes ≡ b .nodes
@@ -167,53 +168,48 @@ unfolding zeroed
 zeroed-same N N′ n l e = ap (λ (x : List ℕ). x ++ replicate (length N - nodeWidth * n) 0) e ∙ ap (λ (m : ℕ). take (nodeWidth * n) N′ ++ replicate (m - nodeWidth * n) 0) l
 
 -- with fewer nodes kept than made
-ends-same : (o first e k n : ℕ) (E N E′ N′ : List ℕ) → k ≤ n → Alike e n E N E′ N′ → SameParsed (ends o first k e E N) (ends o first k e E′ N′)
-ends-same o first e k n E N E′ N′ h a = record {
+ends-same : (o first k : ℕ) (p : State) (E N E′ N′ : List ℕ) → k ≤ p .nodes → Alike (p .errors) (p .nodes) E N E′ N′ → SameParsed (ends o first k p E N) (ends o first k p E′ N′)
+ends-same o first k p E N E′ N′ h a = record {
   outcome = refl;
   errorCount = refl;
   nodeCount = refl;
   first = refl;
+  looks = refl;
   errors-long = a .errors-long;
   errors-same = a .errors-same;
-  nodes = zeroed-same N N′ k (a .nodes-long) (take-less (nodeWidth * k) (nodeWidth * n) N N′ (omega (arith, h)) (a .nodes-same));
+  nodes = zeroed-same N N′ k (a .nodes-long) (take-less (nodeWidth * k) (nodeWidth * p .nodes) N N′ (omega (arith, h)) (a .nodes-same));
 }
 
 same-or : (a : ℕ) (E : List ℕ) (b : ℕ) (N : List ℕ) (first : ℕ) {r r′ : Reply} (k : ℕ → State → List ℕ → List ℕ → Parsed) → Grown a E b N r → Same r r′
     → ((n : ℕ) (q : State) (E N E′ N′ : List ℕ) → Alike (q .errors) (q .nodes) E N E′ N′ → SameParsed (k n q E N) (k n q E′ N′)) → SameParsed (orEnds first b r k) (orEnds first b r′ k)
 same-or a E b N first k g (same q (Node f) F M F′ M′ s) h = h (f .node) q F M F′ M′ s
-same-or a E b N first k g (same q (Stop o) F M F′ M′ s) h = ends-same o first (q .errors) b (q .nodes) F M F′ M′ (g .nodes .more) s
+same-or a E b N first k g (same q (Stop o) F M F′ M′ s) h = ends-same o first b q F M F′ M′ (g .nodes .more) s
 
 same-if : (b : Bool) (f f′ g g′ : Unit {0} → Parsed) → SameParsed (f tt) (f′ tt) → SameParsed (g tt) (g′ tt) → SameParsed (ifEnd b f g) (ifEnd b f′ g′)
 same-if true f f′ g g′ h e = h
 same-if false f f′ g g′ h e = e
 
-pub statements-sized : (f : ℕ) (T : List ℕ) (first last : ℕ) (p : State) (E N E′ N′ : List ℕ) → Alike (p .errors) (p .nodes) E N E′ N′ → SameParsed (statements f T first last p E N) (statements f T first last p E′ N′)
+pub statements-sized : (f : ℕ) (T : View) (first last : ℕ) (p : State) (E N E′ N′ : List ℕ) → Alike (p .errors) (p .nodes) E N E′ N′ → SameParsed (statements f T first last p E N) (statements f T first last p E′ N′)
 unfolding statements
-statements-sized zero T first last p E N E′ N′ a = ends-same 99 first (p .errors) (p .nodes) (p .nodes) E N E′ N′ (omega arith) a
+statements-sized zero T first last p E N E′ N′ a = ends-same 99 first (p .nodes) p E N E′ N′ (omega arith) a
 statements-sized (suc f) T first last p E N E′ N′ a =
-    same-if (eqb (kindAt T (p .current)) 0) _ _ _ _ (ends-same 0 first (p .errors) (p .nodes) (p .nodes) E N E′ N′ (omega arith) a)
+    same-if (eqb (kindAt (T .tokens) (p .current)) 0) _ _ _ _ (ends-same 0 first (p .nodes) p E N E′ N′ (omega arith) a)
     (same-or (p .errors) E (p .nodes) N first _ (top-frames T p E N) (top-sized T p E N E′ N′ a) λ n q F M F′ M′ b.
     statements-sized f T (firstOf first n) n q F (linked M last n) F′ (linked M′ last n) (linked-same (q .errors) (q .nodes) F M F′ M′ last n b))
 
 -- a parsing depends on the lengths of the tables and on the first `errors` errors only
-pub parsed-sizes : (rule : ℕ) (T : List ℕ) (errors : ℕ) (E N E′ N′ : List ℕ) → length E ≡ length E′ → length N ≡ length N′ → take (errorWidth * errors) E ≡ take (errorWidth * errors) E′
+pub parsed-sizes : (rule : ℕ) (T : View) (errors : ℕ) (E N E′ N′ : List ℕ) → length E ≡ length E′ → length N ≡ length N′ → take (errorWidth * errors) E ≡ take (errorWidth * errors) E′
     → SameParsed (parsed rule T errors E N) (parsed rule T errors E′ N′)
 unfolding parsed
 parsed-sizes rule T errors E N E′ N′ l m e =
-    statements-sized (suc (count T)) T 0 0 (freshState rule errors) E N E′ N′
+    statements-sized (suc (count (T .tokens))) T 0 0 (freshState rule errors) E N E′ N′
     (record { errors-long = l; nodes-long = m; errors-same = e; nodes-same = refl })
 
 -- ---- what the node table held before does not matter at all
 parsed-ext : (a b : Parsed) → SameParsed a b → a .errors ≡ b .errors → a ≡ b
-parsed-ext a b h e =
-    ap (λ (x : ℕ). record { outcome = x; errorCount = a .errorCount; nodeCount = a .nodeCount; first = a .first; errors = a .errors; nodes = a .nodes }) (h .outcome)
-    ∙ ap (λ (x : ℕ). record { outcome = b .outcome; errorCount = x; nodeCount = a .nodeCount; first = a .first; errors = a .errors; nodes = a .nodes }) (h .errorCount)
-    ∙ ap (λ (x : ℕ). record { outcome = b .outcome; errorCount = b .errorCount; nodeCount = x; first = a .first; errors = a .errors; nodes = a .nodes }) (h .nodeCount)
-    ∙ ap (λ (x : ℕ). record { outcome = b .outcome; errorCount = b .errorCount; nodeCount = b .nodeCount; first = x; errors = a .errors; nodes = a .nodes }) (h .first)
-    ∙ ap (λ (x : List ℕ). record { outcome = b .outcome; errorCount = b .errorCount; nodeCount = b .nodeCount; first = b .first; errors = x; nodes = a .nodes }) e
-    ∙ ap (λ (x : List ℕ). record { outcome = b .outcome; errorCount = b .errorCount; nodeCount = b .nodeCount; first = b .first; errors = b .errors; nodes = x }) (h .nodes)
+parsed-ext a b h e = λ i. record { outcome = h .outcome i; errorCount = h .errorCount i; nodeCount = h .nodeCount i; first = h .first i; looks = h .looks i; errors = e i; nodes = h .nodes i }
 
-pub parsed-nodes-any : (rule : ℕ) (T : List ℕ) (errors : ℕ) (E N N′ : List ℕ) → length N ≡ length N′ → parsed rule T errors E N ≡ parsed rule T errors E N′
+pub parsed-nodes-any : (rule : ℕ) (T : View) (errors : ℕ) (E N N′ : List ℕ) → length N ≡ length N′ → parsed rule T errors E N ≡ parsed rule T errors E N′
 parsed-nodes-any rule T errors E N N′ l =
     let a = parsed rule T errors E N in
     let b = parsed rule T errors E N′ in

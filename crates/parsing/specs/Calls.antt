@@ -14,8 +14,8 @@ use Rattle.parser.specs.declared.Found.{Found}
 use Rattle.parser.specs.declared.Seen.{Seen}
 use Rattle.parser.specs.declared.Seen.the-variants.{At, Nothing}
 use Rattle.parser.specs.declared.Got.the-variants.{Node, Stop}
-use Rattle.parser.specs.Tokens.{kindAt, checkAt, matchesAt}
-use Rattle.parser.specs.Tables.{Reply, reply, moved, plain, pushNode, pushError, consumeAt, requireAt}
+use Rattle.parser.specs.Tokens.{View, kindAt, checkAt, matchesAt}
+use Rattle.parser.specs.Tables.{Reply, reply, moved, looked, plain, pushNode, pushError, consumeAt, requireAt}
 use Rattle.parser.specs.Programs.{Which, Prog, give, stop, _>>=_, _>>_, look, check, atEnd, previous, node, link, fail, failAt, consume, require, enterLoop, leaveLoop, giveBack, insideLoop, inFunction, down, raised}
 use Rattle.parser.specs.Grammar.{body}
 
@@ -87,20 +87,20 @@ leave n (named (reply p (Node f) E N) []) = unequal
 leave n (named (reply p (Stop o) E N) cs) = named (reply p (Stop o) E N) cs
 leave n unequal = unequal
 
--- what a program does with the call stack; the state's own count of loops is not looked at
-unfoldable pub runNamed : List ℕ → (Which → NamedReader) → Prog → NamedReader
+-- what a program does with the call stack; looks count as without it, and the state's own count of loops is not looked at
+unfoldable pub runNamed : View → (Which → NamedReader) → Prog → NamedReader
 runNamed T low (give f) p cs E N = named (reply p (Node f) E N) cs
 runNamed T low (stop o) p cs E N = named (reply p (Stop o) E N) cs
 runNamed T low (m >>= k) p cs E N = thenNamed (runNamed T low m p cs E N) λ f q cs E N. runNamed T low (k f) q cs E N
 runNamed T low (m >> k) p cs E N = thenNamed (runNamed T low m p cs E N) λ f q cs E N. runNamed T low k q cs E N
-runNamed T low (look kind found missing) p cs E N = ifNamed (matchesAt T (p .current) kind) (λ i. runNamed T low (found i) (moved p i) cs E N) λ _. runNamed T low missing p cs E N
-runNamed T low (check kind found missing) p cs E N = ifNamed (checkAt T (p .current) kind) (λ i. runNamed T low found (moved p i) cs E N) λ _. runNamed T low missing p cs E N
-runNamed T low (atEnd found missing) p cs E N = eitherNamed (eqb (kindAt T (p .current)) EOF) (λ _. runNamed T low found p cs E N) λ _. runNamed T low missing p cs E N
+runNamed T low (look kind found missing) p cs E N = ifNamed (matchesAt T (p .current) kind) (λ i. runNamed T low (found i) (moved (looked p 1) i) cs E N) λ _. runNamed T low missing (looked p 1) cs E N
+runNamed T low (check kind found missing) p cs E N = ifNamed (checkAt T (p .current) kind) (λ i. runNamed T low found (moved (looked p 1) i) cs E N) λ _. runNamed T low missing (looked p 1) cs E N
+runNamed T low (atEnd found missing) p cs E N = eitherNamed (eqb (kindAt (T .tokens) (p .current)) EOF) (λ _. runNamed T low found p cs E N) λ _. runNamed T low missing p cs E N
 runNamed T low previous p cs E N = named (reply p (Node (plain (p .current))) E N) cs
 runNamed T low (node d) p cs E N = named (pushNode d p E N) cs
 runNamed T low (link prev next) p cs E N = named (reply p (Node (plain 0)) E (linked N prev next)) cs
-runNamed T low (fail message) p cs E N = named (pushError T message (p .current) p E N) cs
-runNamed T low (failAt message token) p cs E N = named (pushError T message (token - 1) p E N) cs
+runNamed T low (fail message) p cs E N = named (pushError (T .tokens) message (p .current) p E N) cs
+runNamed T low (failAt message token) p cs E N = named (pushError (T .tokens) message (token - 1) p E N) cs
 runNamed T low (consume kind message) p cs E N = named (consumeAt T kind message p E N) cs
 runNamed T low (require kind message) p cs E N = named (requireAt T kind message p E N) cs
 runNamed T low enterLoop p cs E N = named (reply p (Node (plain 0)) E N) (withLoops cs (raised (loopsOf cs)))
@@ -112,6 +112,6 @@ runNamed T low (inFunction token m) p cs E N =
 runNamed T low (down w) p cs E N = low w p cs E N
 
 -- with l levels left: a reading one level down
-unfoldable pub lowerNamed : List ℕ → ℕ → Which → NamedReader
+unfoldable pub lowerNamed : View → ℕ → Which → NamedReader
 lowerNamed T zero w p cs E N = named (reply p (Stop tooDeep) E N) cs
 lowerNamed T (suc l) w p cs E N = runNamed T (lowerNamed T l) (body T w) p cs E N

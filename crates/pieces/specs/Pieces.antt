@@ -1,10 +1,11 @@
 -- Programs of the code's own functions, where the Rust has none of that name: parts of the readers.
-use Prim.Native.Nat.{ℕ}
+use Prim.Native.Nat.{ℕ, _+_}
 use mathlib.Core.Bool.{Bool, true, false, _||_}
 use mathlib.Core.List.{List, [], _∷_}
 use lib.Dec.{eqb}
-use Rattle.token.specs.Kind.{RightParen, RightBrace, LeftCurlyBrace, RightCurlyBrace, Semicolon, Less, Else, Identifier, Number, String, False, True, Nil}
+use Rattle.token.specs.Kind.{RightParen, RightBrace, RightCurlyBrace, Minus, Semicolon, Less, Identifier, Number, String, False, True, Nil, Not}
 use Rattle.records.specs.Messages.{expectedVariableName, expectedRightCurly, expectParenAfterExpression, expectedSemicolon, onlyInsideLoop, expectedEndOfList, expectedEndOfDict, expectedPropertyName, expectParenAfterArguments}
+use Rattle.parser.specs.Tokens.{View}
 use Rattle.parser.specs.declared.Found.{Found}
 use Rattle.parser.specs.declared.Form.the-variants.{Empty}
 use Rattle.parser.specs.Tables.{plain}
@@ -13,7 +14,7 @@ use Rattle.parser.specs.Programs.{Reader, Which, Declaration, Prog, give, stop,
 use Rattle.parser.specs.Grammar.{nothing, expression, named, property, parameters, functionBody, lower}
 
 -- a program with so many levels left
-abbrev pub runAt : List ℕ → ℕ → Prog → Reader
+abbrev pub runAt : View → ℕ → Prog → Reader
 runAt T l P = run T (lower T l) P
 
 -- the superclass, if `<` follows
@@ -80,11 +81,20 @@ unfoldable pub among : List ℕ → ℕ → Bool
 among [] kind = false
 among (k ∷ ks) kind = eqb kind k || among ks kind
 
--- the kinds of a literal's token
+-- the place of a kind among those, the first of them n; 0 if it is none of them
+unfoldable pub placeIn : ℕ → List ℕ → ℕ → ℕ
+placeIn n [] kind = 0
+placeIn n (k ∷ ks) kind = elim (eqb kind k) [ true ↦ n | false ↦ placeIn (n + 1) ks kind ]
+
+-- the kinds of a literal's token, in the order in which `primary` tests for them
 abbrev pub literals : List ℕ
 literals = Number ∷ String ∷ False ∷ True ∷ Nil ∷ []
 
-module _ (T : List ℕ) where
+-- the prefix operators, in the order in which `unary` tests for them
+abbrev pub prefixes : List ℕ
+prefixes = Not ∷ Minus ∷ []
+
+module _ (T : View) where
   -- a function from its parameters on
   abbrev pub func : ℕ → ℕ → ℕ → Prog
   func kind name message = do

@@ -3,13 +3,14 @@ ghost use mathlib.Core.Path.{_≡_};
 ghost use mathlib.Core.List.{List};
 ghost use Prim.Native.Nat.{ℕ, _-_};
 ghost use Rattle.rules.specs.Rules.{loopsBehind};
-ghost use Rattle.parser.specs.Tables.{reply, looped, andThen, pushNode, pushError};
+ghost use Rattle.parser.specs.Tokens.{indexed};
+ghost use Rattle.parser.specs.Tables.{reply, looked, looped, andThen, pushNode, pushError};
 ghost use Rattle.parser.specs.Nodes as rows;
 ghost use Rattle.parser.specs.Programs.{Which, Reader, run};
 ghost use Rattle.parser.specs.Grammar as specs;
-ghost use Rattle.parser.specs.Grammar.{lastOf, formThrough, fuel, namesFrom, closed, superExpr};
+ghost use Rattle.parser.specs.Grammar.{named, lastOf, formThrough, fuel, namesFrom, closed, superExpr};
 ghost use Rattle.pieces.specs.Pieces as pieces;
-ghost use Rattle.pieces.specs.Pieces.{endClass, among, literals};
+ghost use Rattle.pieces.specs.Pieces.{endClass, placeIn, literals, prefixes};
 use parser::Form;
 use parser::Found;
 use parser::Got;
@@ -103,16 +104,17 @@ pub fn parameters(
     tokens: &[u32],
     errors: &mut [u32],
     nodes: &mut [u32],
+    index: &[u32],
     p: State,
     message: u32,
 ) -> Out
-    ensures { λ r. ⌜ ((low : Which → Reader) → reply (r .p) (r .got) (now (errors .exit)) (now (nodes .exit)) ≡ run (now (tokens .entry)) low (specs.parameters (now (tokens .entry)) message) p (now (errors .entry)) (now (nodes .entry))) ⌝ }
+    ensures { λ r. ⌜ ((low : Which → Reader) → reply (r .p) (r .got) (now (errors .exit)) (now (nodes .exit)) ≡ run (indexed (now (tokens .entry)) (now (index .entry))) low (specs.parameters (indexed (now (tokens .entry)) (now (index .entry))) message) p (now (errors .entry)) (now (nodes .entry))) ⌝ }
 {
     let at = p.current;
-    if let Seen::At(i) = parser::check(tokens, at, Token::RIGHT_PAREN) {
-        return parser::gives(p.at_token(i), 0);
+    if let Seen::At(i) = parser::check(tokens, index, at, Token::RIGHT_PAREN) {
+        return parser::gives(p.at_token(i, 1), 0);
     }
-    let mut s = p;
+    let mut s = p.looked(1);
     let mut first = 0;
     let mut last = 0;
     let mut n: u32 = 0;
@@ -121,7 +123,7 @@ pub fn parameters(
             let at = s.current;
             return fatal(tokens, errors, s, 10, at);
         }
-        let g = parser::require(tokens, errors, s, Token::IDENTIFIER, message);
+        let g = parser::require(tokens, errors, index, s, Token::IDENTIFIER, message);
         let k = g.got;
         let Got::Node(i) = k else {
             return g;
@@ -138,10 +140,10 @@ pub fn parameters(
         last = d.node;
         n += 1;
         let at = u.current;
-        let Seen::At(i) = parser::matches(tokens, at, Token::COMMA) else {
-            return parser::gives(u, first);
+        let Seen::At(i) = parser::matches(tokens, index, at, Token::COMMA) else {
+            return parser::gives(u.looked(1), first);
         };
-        s = u.at_token(i);
+        s = u.at_token(i, 1);
     }
 }
 
@@ -173,14 +175,27 @@ pub fn fn_node(nodes: &mut [u32], body: Out, kind: u32, name: u32, params: u32) 
 }
 
 // The superclass, if `<` follows.
-pub fn superclass(tokens: &[u32], errors: &mut [u32], nodes: &mut [u32], p: State) -> Out
-    ensures { λ r. ⌜ ((low : Which → Reader) → reply (r .p) (r .got) (now (errors .exit)) (now (nodes .exit)) ≡ run (now (tokens .entry)) low (pieces.superclass) p (now (errors .entry)) (now (nodes .entry))) ⌝ }
+pub fn superclass(
+    tokens: &[u32],
+    errors: &mut [u32],
+    nodes: &mut [u32],
+    index: &[u32],
+    p: State,
+) -> Out
+    ensures { λ r. ⌜ ((low : Which → Reader) → reply (r .p) (r .got) (now (errors .exit)) (now (nodes .exit)) ≡ run (indexed (now (tokens .entry)) (now (index .entry))) low (pieces.superclass) p (now (errors .entry)) (now (nodes .entry))) ⌝ }
 {
     let at = p.current;
-    let Seen::At(i) = parser::matches(tokens, at, Token::LESS) else {
-        return parser::gives(p, 0);
+    let Seen::At(i) = parser::matches(tokens, index, at, Token::LESS) else {
+        return parser::gives(p.looked(1), 0);
     };
-    let g = parser::consume(tokens, errors, p.at_token(i), Token::IDENTIFIER, 5);
+    let g = parser::consume(
+        tokens,
+        errors,
+        index,
+        p.at_token(i, 1),
+        Token::IDENTIFIER,
+        5,
+    );
     let k = g.got;
     let Got::Node(c) = k else {
         return g;
@@ -193,15 +208,16 @@ pub fn end_class(
     tokens: &[u32],
     errors: &mut [u32],
     nodes: &mut [u32],
+    index: &[u32],
     p: State,
     name: u32,
     methods: u32,
     statics: u32,
     sup: u32,
 ) -> Out
-    ensures { λ r. ⌜ ((low : Which → Reader) → reply (r .p) (r .got) (now (errors .exit)) (now (nodes .exit)) ≡ run (now (tokens .entry)) low (endClass name sup methods statics) p (now (errors .entry)) (now (nodes .entry))) ⌝ }
+    ensures { λ r. ⌜ ((low : Which → Reader) → reply (r .p) (r .got) (now (errors .exit)) (now (nodes .exit)) ≡ run (indexed (now (tokens .entry)) (now (index .entry))) low (endClass name sup methods statics) p (now (errors .entry)) (now (nodes .entry))) ⌝ }
 {
-    let c = parser::consume(tokens, errors, p, Token::RIGHT_CURLY_BRACE, 7);
+    let c = parser::consume(tokens, errors, index, p, Token::RIGHT_CURLY_BRACE, 7);
     let k = c.got;
     let Got::Node(_) = k else {
         return c;
@@ -215,18 +231,22 @@ pub fn end_class(
 }
 
 // The names of an enhanced for; commas between them may be missing.
-pub fn names(tokens: &[u32], nodes: &mut [u32], p: State) -> Out
-    ensures { λ r. ⌜ ((low : Which → Reader) (E : List ℕ) → reply (r .p) (r .got) E (now (nodes .exit)) ≡ run (now (tokens .entry)) low (namesFrom (now (tokens .entry)) (fuel (now (tokens .entry))) 0 0) p E (now (nodes .entry))) ⌝ }
+pub fn names(tokens: &[u32], nodes: &mut [u32], index: &[u32], p: State) -> Out
+    ensures { λ r. ⌜ ((low : Which → Reader) (E : List ℕ) → reply (r .p) (r .got) E (now (nodes .exit)) ≡ run (indexed (now (tokens .entry)) (now (index .entry))) low (namesFrom (indexed (now (tokens .entry)) (now (index .entry))) (fuel (indexed (now (tokens .entry)) (now (index .entry)))) 0 0) p E (now (nodes .entry))) ⌝ }
 {
     let mut s = p;
     let mut first = 0;
     let mut last = 0;
     loop {
         let at = s.current;
-        let Seen::At(i) = parser::matches(tokens, at, Token::IDENTIFIER) else {
-            return parser::gives(s, first);
+        let Seen::At(i) = parser::matches(tokens, index, at, Token::IDENTIFIER) else {
+            return parser::gives(s.looked(1), first);
         };
-        let g = parser::make(nodes, s.at_token(i), row(Node::NAME, i, 0, 0, 0, 0, 0, 0));
+        let g = parser::make(
+            nodes,
+            s.at_token(i, 1),
+            row(Node::NAME, i, 0, 0, 0, 0, 0, 0),
+        );
         let k = g.got;
         let Got::Node(n) = k else {
             return g;
@@ -236,14 +256,14 @@ pub fn names(tokens: &[u32], nodes: &mut [u32], p: State) -> Out
         last = n.node;
         let u = g.p;
         let at = u.current;
-        s = match parser::matches(tokens, at, Token::COMMA) {
-            Seen::At(j) => u.at_token(j),
-            Seen::Nothing => u,
+        s = match parser::matches(tokens, index, at, Token::COMMA) {
+            Seen::At(j) => u.at_token(j, 1),
+            Seen::Nothing => u.looked(1),
         };
     }
 }
 
-// The node of an if, behind the statements of its else.
+// The node of an if, behind the statements of its else, which were read as a block. The Rust stays on the brace behind them and asks for it again: one look more.
 pub fn if_node(
     nodes: &mut [u32],
     others: Out,
@@ -252,7 +272,7 @@ pub fn if_node(
     stmts: u32,
     elifs: u32,
 ) -> Out
-    ensures { λ r. ⌜ ((E : List ℕ) → reply (r .p) (r .got) E (now (nodes .exit)) ≡ andThen (reply (others .p) (others .got) E (now (nodes .entry))) λ o q E N. pushNode (rows.ifRow keyword cond stmts elifs (o .node)) q E N) ⌝ }
+    ensures { λ r. ⌜ ((E : List ℕ) → reply (r .p) (r .got) E (now (nodes .exit)) ≡ andThen (reply (others .p) (others .got) E (now (nodes .entry))) λ o q E N. pushNode (rows.ifRow keyword cond stmts elifs (o .node)) (looked q 1) E N) ⌝ }
 {
     let k = others.got;
     let Got::Node(o) = k else {
@@ -261,7 +281,7 @@ pub fn if_node(
     let q = others.p;
     parser::make(
         nodes,
-        q,
+        q.looked(1),
         row(Node::IF, keyword, 0, 0, cond, stmts, elifs, o.node),
     )
 }
@@ -300,7 +320,7 @@ pub fn jump(
     kind: u32,
     keyword: u32,
 ) -> Out
-    ensures { λ r. ⌜ ((low : Which → Reader) → reply (r .p) (r .got) (now (errors .exit)) (now (nodes .exit)) ≡ run (now (tokens .entry)) low (pieces.jump kind keyword) p (now (errors .entry)) (now (nodes .entry))) ⌝ }
+    ensures { λ r. ⌜ ((low : Which → Reader) (I : List ℕ) → reply (r .p) (r .got) (now (errors .exit)) (now (nodes .exit)) ≡ run (indexed (now (tokens .entry)) I) low (pieces.jump kind keyword) p (now (errors .entry)) (now (nodes .entry))) ⌝ }
 {
     if p.inside_loop() {
         return parser::make(nodes, p, row(kind, keyword, 0, 0, 0, 0, 0, 0));
@@ -322,15 +342,21 @@ pub fn before(token: u32) -> u32
 }
 
 // `list`, behind its elements.
-pub fn list(tokens: &[u32], errors: &mut [u32], nodes: &mut [u32], elements: Out) -> Out
-    ensures { λ r. ⌜ ((low : Which → Reader) → reply (r .p) (r .got) (now (errors .exit)) (now (nodes .exit)) ≡ andThen (reply (elements .p) (elements .got) (now (errors .entry)) (now (nodes .entry))) λ e q E N. run (now (tokens .entry)) low (pieces.listEnd e) q E N) ⌝ }
+pub fn list(
+    tokens: &[u32],
+    errors: &mut [u32],
+    nodes: &mut [u32],
+    index: &[u32],
+    elements: Out,
+) -> Out
+    ensures { λ r. ⌜ ((low : Which → Reader) → reply (r .p) (r .got) (now (errors .exit)) (now (nodes .exit)) ≡ andThen (reply (elements .p) (elements .got) (now (errors .entry)) (now (nodes .entry))) λ e q E N. run (indexed (now (tokens .entry)) (now (index .entry))) low (pieces.listEnd e) q E N) ⌝ }
 {
     let k = elements.got;
     let Got::Node(e) = k else {
         return elements;
     };
     let q = elements.p;
-    let h = parser::require(tokens, errors, q, Token::RIGHT_BRACE, 20);
+    let h = parser::require(tokens, errors, index, q, Token::RIGHT_BRACE, 20);
     let k = h.got;
     let Got::Node(t) = k else {
         return h;
@@ -340,15 +366,21 @@ pub fn list(tokens: &[u32], errors: &mut [u32], nodes: &mut [u32], elements: Out
 }
 
 // `dictionary`, behind its elements.
-pub fn dictionary(tokens: &[u32], errors: &mut [u32], nodes: &mut [u32], elements: Out) -> Out
-    ensures { λ r. ⌜ ((low : Which → Reader) → reply (r .p) (r .got) (now (errors .exit)) (now (nodes .exit)) ≡ andThen (reply (elements .p) (elements .got) (now (errors .entry)) (now (nodes .entry))) λ e q E N. run (now (tokens .entry)) low (pieces.dictionaryEnd e) q E N) ⌝ }
+pub fn dictionary(
+    tokens: &[u32],
+    errors: &mut [u32],
+    nodes: &mut [u32],
+    index: &[u32],
+    elements: Out,
+) -> Out
+    ensures { λ r. ⌜ ((low : Which → Reader) → reply (r .p) (r .got) (now (errors .exit)) (now (nodes .exit)) ≡ andThen (reply (elements .p) (elements .got) (now (errors .entry)) (now (nodes .entry))) λ e q E N. run (indexed (now (tokens .entry)) (now (index .entry))) low (pieces.dictionaryEnd e) q E N) ⌝ }
 {
     let k = elements.got;
     let Got::Node(e) = k else {
         return elements;
     };
     let q = elements.p;
-    let h = parser::require(tokens, errors, q, Token::RIGHT_CURLY_BRACE, 21);
+    let h = parser::require(tokens, errors, index, q, Token::RIGHT_CURLY_BRACE, 21);
     let k = h.got;
     let Got::Node(t) = k else {
         return h;
@@ -366,6 +398,7 @@ pub fn close_access(
     tokens: &[u32],
     errors: &mut [u32],
     nodes: &mut [u32],
+    index: &[u32],
     p: State,
     object: Found,
     brace: u32,
@@ -375,9 +408,9 @@ pub fn close_access(
     d: u32,
     third: u32,
 ) -> Out
-    ensures { λ r. ⌜ ((low : Which → Reader) → reply (r .p) (r .got) (now (errors .exit)) (now (nodes .exit)) ≡ run (now (tokens .entry)) low (closed (now (tokens .entry)) object brace first c second d third) p (now (errors .entry)) (now (nodes .entry))) ⌝ }
+    ensures { λ r. ⌜ ((low : Which → Reader) → reply (r .p) (r .got) (now (errors .exit)) (now (nodes .exit)) ≡ run (indexed (now (tokens .entry)) (now (index .entry))) low (closed (indexed (now (tokens .entry)) (now (index .entry))) object brace first c second d third) p (now (errors .entry)) (now (nodes .entry))) ⌝ }
 {
-    let h = parser::consume(tokens, errors, p, Token::RIGHT_BRACE, 24);
+    let h = parser::consume(tokens, errors, index, p, Token::RIGHT_BRACE, 24);
     let k = h.got;
     let Got::Node(_) = k else {
         return h;
@@ -402,6 +435,7 @@ pub fn step(
     tokens: &[u32],
     errors: &mut [u32],
     nodes: &mut [u32],
+    index: &[u32],
     third: Out,
     object: Found,
     brace: u32,
@@ -410,7 +444,7 @@ pub fn step(
     second: u32,
     d: u32,
 ) -> Out
-    ensures { λ r. ⌜ ((low : Which → Reader) → reply (r .p) (r .got) (now (errors .exit)) (now (nodes .exit)) ≡ andThen (reply (third .p) (third .got) (now (errors .entry)) (now (nodes .entry))) λ e q E N. run (now (tokens .entry)) low (closed (now (tokens .entry)) object brace first c second d (e .node)) q E N) ⌝ }
+    ensures { λ r. ⌜ ((low : Which → Reader) → reply (r .p) (r .got) (now (errors .exit)) (now (nodes .exit)) ≡ andThen (reply (third .p) (third .got) (now (errors .entry)) (now (nodes .entry))) λ e q E N. run (indexed (now (tokens .entry)) (now (index .entry))) low (closed (indexed (now (tokens .entry)) (now (index .entry))) object brace first c second d (e .node)) q E N) ⌝ }
 {
     let k = third.got;
     let Got::Node(e) = k else {
@@ -421,6 +455,7 @@ pub fn step(
         tokens,
         errors,
         nodes,
+        index,
         q,
         object,
         brace,
@@ -436,26 +471,27 @@ pub fn super_expr(
     tokens: &[u32],
     errors: &mut [u32],
     nodes: &mut [u32],
+    index: &[u32],
     p: State,
     keyword: u32,
 ) -> Out
-    ensures { λ r. ⌜ ((low : Which → Reader) → reply (r .p) (r .got) (now (errors .exit)) (now (nodes .exit)) ≡ run (now (tokens .entry)) low (superExpr (now (tokens .entry)) keyword) p (now (errors .entry)) (now (nodes .entry))) ⌝ }
+    ensures { λ r. ⌜ ((low : Which → Reader) → reply (r .p) (r .got) (now (errors .exit)) (now (nodes .exit)) ≡ run (indexed (now (tokens .entry)) (now (index .entry))) low (superExpr (indexed (now (tokens .entry)) (now (index .entry))) keyword) p (now (errors .entry)) (now (nodes .entry))) ⌝ }
 {
     let at = p.current;
-    if let Seen::At(i) = parser::check(tokens, at, Token::LEFT_PAREN) {
+    if let Seen::At(i) = parser::check(tokens, index, at, Token::LEFT_PAREN) {
         return parser::make(
             nodes,
-            p.at_token(i),
+            p.at_token(i, 1),
             row(Node::SUPER, keyword, 0, 0, 0, 0, 0, 0),
         );
     }
-    let h = parser::consume(tokens, errors, p, Token::DOT, 29);
+    let h = parser::consume(tokens, errors, index, p.looked(1), Token::DOT, 29);
     let k = h.got;
     let Got::Node(_) = k else {
         return h;
     };
     let q = h.p;
-    let g = parser::require(tokens, errors, q, Token::IDENTIFIER, 5);
+    let g = parser::require(tokens, errors, index, q, Token::IDENTIFIER, 5);
     let k = g.got;
     let Got::Node(m) = k else {
         return g;
@@ -465,10 +501,17 @@ pub fn super_expr(
 }
 
 // A grouping, behind its expression.
-pub fn grouping(tokens: &[u32], errors: &mut [u32], nodes: &mut [u32], p: State, e: u32) -> Out
-    ensures { λ r. ⌜ ((low : Which → Reader) → reply (r .p) (r .got) (now (errors .exit)) (now (nodes .exit)) ≡ run (now (tokens .entry)) low (pieces.grouping e) p (now (errors .entry)) (now (nodes .entry))) ⌝ }
+pub fn grouping(
+    tokens: &[u32],
+    errors: &mut [u32],
+    nodes: &mut [u32],
+    index: &[u32],
+    p: State,
+    e: u32,
+) -> Out
+    ensures { λ r. ⌜ ((low : Which → Reader) → reply (r .p) (r .got) (now (errors .exit)) (now (nodes .exit)) ≡ run (indexed (now (tokens .entry)) (now (index .entry))) low (pieces.grouping e) p (now (errors .entry)) (now (nodes .entry))) ⌝ }
 {
-    let h = parser::consume(tokens, errors, p, Token::RIGHT_PAREN, 12);
+    let h = parser::consume(tokens, errors, index, p, Token::RIGHT_PAREN, 12);
     let k = h.got;
     let Got::Node(_) = k else {
         return h;
@@ -479,7 +522,7 @@ pub fn grouping(tokens: &[u32], errors: &mut [u32], nodes: &mut [u32], p: State,
 
 // The node of a name, which may stand left of `=`.
 pub fn variable(nodes: &mut [u32], p: State, token: u32) -> Out
-    ensures { λ r. ⌜ ((T : List ℕ) (low : Which → Reader) (E : List ℕ) → reply (r .p) (r .got) E (now (nodes .exit)) ≡ run T low (pieces.variable token) p E (now (nodes .entry))) ⌝ }
+    ensures { λ r. ⌜ ((E : List ℕ) → reply (r .p) (r .got) E (now (nodes .exit)) ≡ andThen (pushNode (rows.varRow token) p E (now (nodes .entry))) λ n q E N. reply q (Got.Node (named token (n .node))) E N) ⌝ }
 {
     let g = parser::make(nodes, p, row(Node::VAR, token, 0, 0, 0, 0, 0, 0));
     let k = g.got;
@@ -491,7 +534,7 @@ pub fn variable(nodes: &mut [u32], p: State, token: u32) -> Out
 }
 
 pub fn empty(nodes: &mut [u32], p: State) -> Out
-    ensures { λ r. ⌜ ((T : List ℕ) (low : Which → Reader) (E : List ℕ) → reply (r .p) (r .got) E (now (nodes .exit)) ≡ run T low (pieces.empty) p E (now (nodes .entry))) ⌝ }
+    ensures { λ r. ⌜ ((E : List ℕ) → reply (r .p) (r .got) E (now (nodes .exit)) ≡ andThen (pushNode rows.emptyRow p E (now (nodes .entry))) λ n q E N. reply q (Got.Node (record { node = n .node; form = Form.Empty; access = 0 })) E N) ⌝ }
 {
     let g = parser::make(nodes, p, row(Node::EMPTY, 0, 0, 0, 0, 0, 0, 0));
     let k = g.got;
@@ -502,13 +545,29 @@ pub fn empty(nodes: &mut [u32], p: State) -> Out
     gives_form(q, n.node, Form::Empty, 0)
 }
 
-// Whether a kind is that of a literal's token.
-pub fn is_literal(kind: u32) -> bool
-    ensures { λ r. ⌜ r ≡ among literals kind ⌝ }
+// Which of `primary`'s first tests finds a literal's token of this kind; 0 if none does.
+pub fn literal_place(kind: u32) -> u32
+    ensures { λ r. ⌜ r ≡ placeIn 1 literals kind ⌝ }
 {
-    (kind == Token::NUMBER)
-        | ((kind == Token::STRING)
-            | ((kind == Token::FALSE) | ((kind == Token::TRUE) | (kind == Token::NIL))))
+    match kind {
+        Token::NUMBER => 1,
+        Token::STRING => 2,
+        Token::FALSE => 3,
+        Token::TRUE => 4,
+        Token::NIL => 5,
+        _ => 0,
+    }
+}
+
+// Which of `unary`'s tests finds a prefix operator of this kind; 0 if none does.
+pub fn prefix_place(kind: u32) -> u32
+    ensures { λ r. ⌜ r ≡ placeIn 1 prefixes kind ⌝ }
+{
+    match kind {
+        Token::NOT => 1,
+        Token::MINUS => 2,
+        _ => 0,
+    }
 }
 
 // `finish_call`, behind its arguments.
@@ -516,17 +575,18 @@ pub fn finish_call(
     tokens: &[u32],
     errors: &mut [u32],
     nodes: &mut [u32],
+    index: &[u32],
     args: Out,
     callee: u32,
 ) -> Out
-    ensures { λ r. ⌜ ((low : Which → Reader) → reply (r .p) (r .got) (now (errors .exit)) (now (nodes .exit)) ≡ andThen (reply (args .p) (args .got) (now (errors .entry)) (now (nodes .entry))) λ e q E N. run (now (tokens .entry)) low (pieces.callEnd callee e) q E N) ⌝ }
+    ensures { λ r. ⌜ ((low : Which → Reader) → reply (r .p) (r .got) (now (errors .exit)) (now (nodes .exit)) ≡ andThen (reply (args .p) (args .got) (now (errors .entry)) (now (nodes .entry))) λ e q E N. run (indexed (now (tokens .entry)) (now (index .entry))) low (pieces.callEnd callee e) q E N) ⌝ }
 {
     let k = args.got;
     let Got::Node(e) = k else {
         return args;
     };
     let q = args.p;
-    let h = parser::require(tokens, errors, q, Token::RIGHT_PAREN, 26);
+    let h = parser::require(tokens, errors, index, q, Token::RIGHT_PAREN, 26);
     let k = h.got;
     let Got::Node(t) = k else {
         return h;
@@ -540,10 +600,17 @@ pub fn finish_call(
 }
 
 // A property, behind its dot.
-pub fn get(tokens: &[u32], errors: &mut [u32], nodes: &mut [u32], p: State, object: u32) -> Out
-    ensures { λ r. ⌜ ((low : Which → Reader) → reply (r .p) (r .got) (now (errors .exit)) (now (nodes .exit)) ≡ run (now (tokens .entry)) low (pieces.get object) p (now (errors .entry)) (now (nodes .entry))) ⌝ }
+pub fn get(
+    tokens: &[u32],
+    errors: &mut [u32],
+    nodes: &mut [u32],
+    index: &[u32],
+    p: State,
+    object: u32,
+) -> Out
+    ensures { λ r. ⌜ ((low : Which → Reader) → reply (r .p) (r .got) (now (errors .exit)) (now (nodes .exit)) ≡ run (indexed (now (tokens .entry)) (now (index .entry))) low (pieces.get object) p (now (errors .entry)) (now (nodes .entry))) ⌝ }
 {
-    let g = parser::require(tokens, errors, p, Token::IDENTIFIER, 25);
+    let g = parser::require(tokens, errors, index, p, Token::IDENTIFIER, 25);
     let k = g.got;
     let Got::Node(name) = k else {
         return g;
@@ -568,7 +635,7 @@ pub fn assigned(
     value: u32,
     equal: u32,
 ) -> Out
-    ensures { λ r. ⌜ ((low : Which → Reader) → reply (r .p) (r .got) (now (errors .exit)) (now (nodes .exit)) ≡ run (now (tokens .entry)) low (specs.assigned (left .form) (left .access) value equal) p (now (errors .entry)) (now (nodes .entry))) ⌝ }
+    ensures { λ r. ⌜ ((low : Which → Reader) (I : List ℕ) → reply (r .p) (r .got) (now (errors .exit)) (now (nodes .exit)) ≡ run (indexed (now (tokens .entry)) I) low (specs.assigned (left .form) (left .access) value equal) p (now (errors .entry)) (now (nodes .entry))) ⌝ }
 {
     let f = left.form;
     match f {

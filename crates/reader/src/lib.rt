@@ -9,7 +9,8 @@ use entry::Answer;
 use lexer::Scanned;
 use records::Outcome;
 
-// Reads a source into the three tables, by the rule and on the way that are asked for. Where it is not parsed no node is kept.
+// Reads a source into the three tables, with an index of its newlines, by the rule and on the way that are asked for. Where it is not parsed no node is kept,
+// and the index is as it was.
 pub fn read(
     rule: u32,
     way: u32,
@@ -17,19 +18,21 @@ pub fn read(
     tokens: &mut [u32],
     errors: &mut [u32],
     nodes: &mut [u32],
+    index: &mut [u32],
 ) -> Answer
-    ensures { λ r. ⌜ Answers (reading rule way (now (source .entry)) (now (tokens .entry)) (now (errors .entry)) (now (nodes .entry)))
-        r (now (tokens .exit)) (now (errors .exit)) (now (nodes .exit)) ⌝ }
+    ensures { λ r. ⌜ Answers (reading rule way (now (source .entry)) (now (tokens .entry)) (now (errors .entry)) (now (nodes .entry)) (now (index .entry)))
+        r (now (tokens .exit)) (now (errors .exit)) (now (nodes .exit)) (now (index .exit)) ⌝ }
 {
-    let d = entry::enter(rule, way, source, tokens, errors, nodes);
+    let d = entry::enter(rule, way, source, tokens, errors, nodes, index);
     if d.outcome == Outcome::ENDED {
-        let p = statements::parse(rule, tokens, errors, nodes, d.errors);
+        let p = statements::parse(rule, tokens, errors, nodes, index, d.errors);
         return Answer {
             outcome: p.outcome,
             tokens: d.tokens,
             errors: p.errors,
             nodes: p.nodes,
             first: p.first,
+            looks: p.looks,
         };
     }
     Answer {
@@ -38,6 +41,7 @@ pub fn read(
         errors: d.errors,
         nodes: 0,
         first: 0,
+        looks: 0,
     }
 }
 
@@ -50,11 +54,12 @@ pub extern "C" fn kettleplume_read(
     tokens: &mut [u32],
     errors: &mut [u32],
     nodes: &mut [u32],
+    index: &mut [u32],
 ) -> Answer
-    ensures { λ r. ⌜ Answers (reading rule way (now (source .entry)) (now (tokens .entry)) (now (errors .entry)) (now (nodes .entry)))
-        r (now (tokens .exit)) (now (errors .exit)) (now (nodes .exit)) ⌝ }
+    ensures { λ r. ⌜ Answers (reading rule way (now (source .entry)) (now (tokens .entry)) (now (errors .entry)) (now (nodes .entry)) (now (index .entry)))
+        r (now (tokens .exit)) (now (errors .exit)) (now (nodes .exit)) (now (index .exit)) ⌝ }
 {
-    read(rule, way, source, tokens, errors, nodes)
+    read(rule, way, source, tokens, errors, nodes, index)
 }
 
 // Lexes a source by a rule into a token table and an error table.

@@ -41,7 +41,7 @@ tooDeep = 8
 abbrev pub notAString : ℕ
 notAString = 9
 
--- decoding: the buffer is too short
+-- decoding: the buffer is too short; a reading: the newline index is
 abbrev pub noBufferRoom : ℕ
 noBufferRoom = 10
 

@@ -18,6 +18,10 @@ errorWidth = 3
 abbrev pub nodeWidth : ℕ
 nodeWidth = 9
 
+-- an index has one word for each token
+abbrev pub indexWidth : ℕ
+indexWidth = 1
+
 -- how many records the table has: a spare tail shorter than a record is never a record, and a reference, index + 1, is one word
 abbrev pub room : ℕ → List ℕ → ℕ
 room w t = min (length t / w) 4294967295

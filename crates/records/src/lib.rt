@@ -1,15 +1,17 @@
-// Token, error and node records in lent tables of words.
+// Token, error and node records in lent tables of words, and the words of an index.
 ghost use mathlib.Core.Path.{_≡_};
 ghost use Prim.Native.Nat.{min, _<_};
-ghost use Rattle.records.specs.Table.{tokenWidth, errorWidth, nodeWidth, room, field, linked, zeroed, Pushed};
+ghost use Rattle.records.specs.Table.{tokenWidth, errorWidth, nodeWidth, indexWidth, room, field, linked, zeroed, Pushed};
 ghost use Rattle.records.specs.Words.{tokenWords, errorWords, nodeWords};
 
-// The words of a token, of an error and of a node.
+// The words of a token, of an error and of a node; an index has one for each token.
 pub const TOKEN_WIDTH: usize = 8;
 
 pub const ERROR_WIDTH: usize = 3;
 
 pub const NODE_WIDTH: usize = 9;
+
+pub const INDEX_WIDTH: usize = 1;
 
 // The words of a token: sort says what value it has, low and high hold it; begins is the line counter when its first byte was met, line the counter behind its last.
 pub struct TokenData {
@@ -141,7 +143,7 @@ impl Outcome {
     // Decoding: no string stands there.
     pub const NOT_A_STRING: u32 = 9;
 
-    // Decoding: the buffer is too short.
+    // Decoding: the buffer is too short. A reading: the newline index is.
     pub const NO_BUFFER_ROOM: u32 = 10;
 
     // The new way: lexing recorded an error, so nothing is parsed.
@@ -203,6 +205,23 @@ pub fn node_room(nodes: &[u32]) -> u32
     ensures { λ r. ⌜ r ≡ room nodeWidth (now (nodes .entry)) ⌝ }
 {
     cap(nodes.len() / NODE_WIDTH)
+}
+
+// How many tokens the index has room for.
+pub fn index_room(index: &[u32]) -> u32
+    ensures { λ r. ⌜ r ≡ room indexWidth (now (index .entry)) ⌝ }
+{
+    cap(index.len() / INDEX_WIDTH)
+}
+
+// The index's word of token i, and 0 past the end.
+pub fn index_word(index: &[u32], i: u32) -> u32
+    ensures { λ r. ⌜ r ≡ field indexWidth 0 (now (index .entry)) i ⌝ }
+{
+    if i < index_room(index) {
+        return index[i as usize];
+    }
+    0
 }
 
 // Writes t as token n, where there is room for it.

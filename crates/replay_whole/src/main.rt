@@ -16,8 +16,8 @@ fn buffer() -> [u8; 262144]
     [0; 262144]
 }
 
-// A vector has a line of six numbers with five digits each: the script's length in bytes, the rule, the way, the sizes of the token, error and node
-// table in words. The script follows, and a newline.
+// A vector has a line of seven numbers with five digits each: the script's length in bytes, the rule, the way, the sizes of the token, error and node
+// table and of the index in words. The script follows, and a newline.
 fn vectors(s: &[u8]) {
     let mut at = 0;
     while at < s.len() {
@@ -35,8 +35,8 @@ fn vector(s: &[u8], at: usize) -> usize
     ensures { λ r. ⌜ at ≤ r ⌝ }
 {
     if at < s.len() {
-        if 36 <= s.len() - at {
-            let head = at + 36;
+        if 42 <= s.len() - at {
+            let head = at + 42;
             let n = size(s, at);
             if n <= s.len() - head {
                 let end = head + n;
@@ -47,6 +47,7 @@ fn vector(s: &[u8], at: usize) -> usize
                     size(s, at + 18),
                     size(s, at + 24),
                     size(s, at + 30),
+                    size(s, at + 36),
                 );
                 return end;
             }
@@ -83,10 +84,11 @@ fn value(c: u8) -> usize
 }
 
 // A table has at most 4,096 words, each 7 before.
-fn tables(rule: u32, way: u32, source: &[u8], t: usize, e: usize, n: usize) {
+fn tables(rule: u32, way: u32, source: &[u8], t: usize, e: usize, n: usize, x: usize) {
     let mut tokens = [7u32; 4096];
     let mut errors = [7u32; 4096];
     let mut nodes = [7u32; 4096];
+    let mut index = [7u32; 4096];
     parts(
         rule,
         way,
@@ -97,6 +99,8 @@ fn tables(rule: u32, way: u32, source: &[u8], t: usize, e: usize, n: usize) {
         e,
         &mut nodes,
         n,
+        &mut index,
+        x,
     );
 }
 
@@ -110,26 +114,31 @@ fn parts(
     e: usize,
     nodes: &mut [u32],
     n: usize,
+    index: &mut [u32],
+    x: usize,
 ) {
     if t <= tokens.len() {
         if e <= errors.len() {
             if n <= nodes.len() {
-                read(
-                    rule,
-                    way,
-                    source,
-                    &mut tokens[0..t],
-                    &mut errors[0..e],
-                    &mut nodes[0..n],
-                );
-                return;
+                if x <= index.len() {
+                    read(
+                        rule,
+                        way,
+                        source,
+                        &mut tokens[0..t],
+                        &mut errors[0..e],
+                        &mut nodes[0..n],
+                        &mut index[0..x],
+                    );
+                    return;
+                }
             }
         }
     }
     unknown();
 }
 
-// The answer in its order, then every word of each table.
+// The answer in its order, then every word of each table and of the index.
 fn read(
     rule: u32,
     way: u32,
@@ -137,17 +146,20 @@ fn read(
     tokens: &mut [u32],
     errors: &mut [u32],
     nodes: &mut [u32],
+    index: &mut [u32],
 ) {
-    let r = reader::read(rule, way, source, tokens, errors, nodes);
+    let r = reader::read(rule, way, source, tokens, errors, nodes, index);
     io::write_all(1, b"o");
     word(r.outcome);
     word(r.tokens);
     word(r.errors);
     word(r.nodes);
     word(r.first);
+    word(r.looks);
     words(b"\nt", tokens);
     words(b"\ne", errors);
     words(b"\nn", nodes);
+    words(b"\nx", index);
     io::write_all(1, b"\n");
 }
 

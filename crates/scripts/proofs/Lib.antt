@@ -1,5 +1,6 @@
 pub mod Arguments
 pub mod Cases
+pub mod Index
 pub mod Limits
 pub mod Oracle
 pub mod Parameters

@@ -9,18 +9,19 @@ use Rattle.text.specs.Text.{isText}
 use Rattle.records.specs.Table.{put, field, linked, zeroed}
 use Rattle.items.specs.Items.{signOf}
 use Rattle.lexer.specs.Lex.{lexed, lexedOf}
-use Rattle.parser.specs.Tokens.{kindAt, startAt, lineAt, after, skipFrom, skipLines, seenIf, checkAt, matchesAt}
-use Rattle.parser.specs.Tables.{pushNode, pushError, consumeAt, requireAt}
+use Rattle.parser.specs.Tokens.{kindAt, startAt, lineAt, after, linesFrom, skipLines, seenIf, checkAt, matchesAt}
+use Rattle.parser.specs.Tables.{countedBy, pushNode, pushError, consumeAt, requireAt}
 use Rattle.parser.specs.Programs.{run, raised}
 use Rattle.parser.specs.Grammar.{firstOf, blockFrom, block, expressionStmt, parametersFrom, parameters, functionBody, fnStmt, fnExpr, methodsFrom, class, letStmt, namesFrom, enhancedFor, classicFor, forLoop, tryCatch, elifsFrom, elseFrom, ifStmt, ret, brk, cont, whileStmt, statement, declaration, argumentsFrom, arguments, list, dictElementsFrom, dictionary, closed, access, superExpr, primary, finishCall, callFrom, call, unary, lookMany, binaryFrom, binary, assignment, body, lower}
 use Rattle.parser.specs.Whole.{topLevel, statements, parsed}
+use Rattle.lines.specs.Lines.{lineWord, lineWords, lineIndex}
 use Rattle.entry.specs.Reading.{reading}
 use Rattle.scripts.proofs.Cases.{Case, case, map, answer, expected}
 
 abbrev cases-1 : List Case
 cases-1 =
-    case 1 1 "class A < B { f(a, b) { this.x = a } class g() A() h() this.x class i() a }\n" 39 0 21
-    (0 ∷ 39 ∷ 0 ∷ 21 ∷ 21 ∷
+    case 1 1 "class A < B { f(a, b) { this.x = a } class g() A() h() this.x class i() a }\n" 39 0 21 39
+    (0 ∷ 39 ∷ 0 ∷ 21 ∷ 21 ∷ 202 ∷
     2 ∷ 4 ∷ 0 ∷ 0 ∷ 0 ∷ 0 ∷ 0 ∷ 0 ∷ 0 ∷
     32 ∷ 8 ∷ 0 ∷ 0 ∷ 0 ∷ 0 ∷ 0 ∷ 0 ∷ 3 ∷
     32 ∷ 10 ∷ 0 ∷ 0 ∷ 0 ∷ 0 ∷ 0 ∷ 0 ∷ 0 ∷
@@ -41,45 +42,52 @@ cases-1 =
     2 ∷ 36 ∷ 0 ∷ 0 ∷ 0 ∷ 0 ∷ 0 ∷ 0 ∷ 0 ∷
     30 ∷ 36 ∷ 0 ∷ 0 ∷ 18 ∷ 0 ∷ 0 ∷ 0 ∷ 0 ∷
     18 ∷ 33 ∷ 0 ∷ 0 ∷ 0 ∷ 19 ∷ 0 ∷ 0 ∷ 0 ∷
-    21 ∷ 2 ∷ 0 ∷ 0 ∷ 9 ∷ 13 ∷ 1 ∷ 0 ∷ 0 ∷ []) ∷
-    case 1 1 "class A {}\n" 6 0 1
-    (0 ∷ 6 ∷ 0 ∷ 1 ∷ 1 ∷
-    21 ∷ 2 ∷ 0 ∷ 0 ∷ 0 ∷ 0 ∷ 0 ∷ 0 ∷ 0 ∷ []) ∷
-    case 1 1 "fn f(a, b) {\n  return a\n}\n" 15 0 5
-    (0 ∷ 15 ∷ 0 ∷ 5 ∷ 5 ∷
+    21 ∷ 2 ∷ 0 ∷ 0 ∷ 9 ∷ 13 ∷ 1 ∷ 0 ∷ 0 ∷
+    1 ∷ 2 ∷ 3 ∷ 4 ∷ 5 ∷ 6 ∷ 7 ∷ 8 ∷ 9 ∷ 10 ∷ 11 ∷ 12 ∷ 13 ∷ 14 ∷ 15 ∷ 16 ∷ 17 ∷ 18 ∷ 19 ∷ 20 ∷ 21 ∷ 22 ∷ 23 ∷ 24 ∷ 25 ∷ 26 ∷ 27 ∷ 28 ∷ 29 ∷ 30 ∷ 31 ∷ 32 ∷ 33 ∷ 34 ∷ 35 ∷ 36 ∷ 37 ∷ 39 ∷ 39 ∷ []) ∷
+    case 1 1 "class A {}\n" 6 0 1 6
+    (0 ∷ 6 ∷ 0 ∷ 1 ∷ 1 ∷ 7 ∷
+    21 ∷ 2 ∷ 0 ∷ 0 ∷ 0 ∷ 0 ∷ 0 ∷ 0 ∷ 0 ∷
+    1 ∷ 2 ∷ 3 ∷ 4 ∷ 6 ∷ 6 ∷ []) ∷
+    case 1 1 "fn f(a, b) {\n  return a\n}\n" 15 0 5 15
+    (0 ∷ 15 ∷ 0 ∷ 5 ∷ 5 ∷ 48 ∷
     32 ∷ 4 ∷ 0 ∷ 0 ∷ 0 ∷ 0 ∷ 0 ∷ 0 ∷ 2 ∷
     32 ∷ 6 ∷ 0 ∷ 0 ∷ 0 ∷ 0 ∷ 0 ∷ 0 ∷ 0 ∷
     2 ∷ 11 ∷ 0 ∷ 0 ∷ 0 ∷ 0 ∷ 0 ∷ 0 ∷ 0 ∷
     27 ∷ 10 ∷ 0 ∷ 0 ∷ 3 ∷ 0 ∷ 0 ∷ 0 ∷ 0 ∷
-    18 ∷ 2 ∷ 0 ∷ 0 ∷ 1 ∷ 4 ∷ 0 ∷ 0 ∷ 0 ∷ []) ∷
-    case 1 1 "fn f() a\n" 7 0 3
-    (0 ∷ 7 ∷ 0 ∷ 3 ∷ 3 ∷
+    18 ∷ 2 ∷ 0 ∷ 0 ∷ 1 ∷ 4 ∷ 0 ∷ 0 ∷ 0 ∷
+    1 ∷ 2 ∷ 3 ∷ 4 ∷ 5 ∷ 6 ∷ 7 ∷ 8 ∷ 10 ∷ 10 ∷ 11 ∷ 13 ∷ 13 ∷ 15 ∷ 15 ∷ []) ∷
+    case 1 1 "fn f() a\n" 7 0 3 7
+    (0 ∷ 7 ∷ 0 ∷ 3 ∷ 3 ∷ 34 ∷
     2 ∷ 5 ∷ 0 ∷ 0 ∷ 0 ∷ 0 ∷ 0 ∷ 0 ∷ 0 ∷
     30 ∷ 5 ∷ 0 ∷ 0 ∷ 1 ∷ 0 ∷ 0 ∷ 0 ∷ 0 ∷
-    18 ∷ 2 ∷ 0 ∷ 0 ∷ 0 ∷ 2 ∷ 0 ∷ 0 ∷ 0 ∷ []) ∷
-    case 1 1 "let f = fn(a, b) { return a\n }\n" 16 0 6
-    (0 ∷ 16 ∷ 0 ∷ 6 ∷ 6 ∷
+    18 ∷ 2 ∷ 0 ∷ 0 ∷ 0 ∷ 2 ∷ 0 ∷ 0 ∷ 0 ∷
+    1 ∷ 2 ∷ 3 ∷ 4 ∷ 5 ∷ 7 ∷ 7 ∷ []) ∷
+    case 1 1 "let f = fn(a, b) { return a\n }\n" 16 0 6 16
+    (0 ∷ 16 ∷ 0 ∷ 6 ∷ 6 ∷ 80 ∷
     32 ∷ 6 ∷ 0 ∷ 0 ∷ 0 ∷ 0 ∷ 0 ∷ 0 ∷ 2 ∷
     32 ∷ 8 ∷ 0 ∷ 0 ∷ 0 ∷ 0 ∷ 0 ∷ 0 ∷ 0 ∷
     2 ∷ 12 ∷ 0 ∷ 0 ∷ 0 ∷ 0 ∷ 0 ∷ 0 ∷ 0 ∷
     27 ∷ 11 ∷ 0 ∷ 0 ∷ 3 ∷ 0 ∷ 0 ∷ 0 ∷ 0 ∷
     1 ∷ 0 ∷ 0 ∷ 0 ∷ 1 ∷ 4 ∷ 0 ∷ 0 ∷ 0 ∷
-    19 ∷ 2 ∷ 0 ∷ 0 ∷ 5 ∷ 0 ∷ 0 ∷ 0 ∷ 0 ∷ []) ∷
-    case 1 1 "f(fn() a)\n" 9 0 6
-    (0 ∷ 9 ∷ 0 ∷ 6 ∷ 6 ∷
+    19 ∷ 2 ∷ 0 ∷ 0 ∷ 5 ∷ 0 ∷ 0 ∷ 0 ∷ 0 ∷
+    1 ∷ 2 ∷ 3 ∷ 4 ∷ 5 ∷ 6 ∷ 7 ∷ 8 ∷ 9 ∷ 10 ∷ 11 ∷ 12 ∷ 14 ∷ 14 ∷ 16 ∷ 16 ∷ []) ∷
+    case 1 1 "f(fn() a)\n" 9 0 6 9
+    (0 ∷ 9 ∷ 0 ∷ 6 ∷ 6 ∷ 102 ∷
     2 ∷ 1 ∷ 0 ∷ 0 ∷ 0 ∷ 0 ∷ 0 ∷ 0 ∷ 0 ∷
     2 ∷ 6 ∷ 0 ∷ 0 ∷ 0 ∷ 0 ∷ 0 ∷ 0 ∷ 0 ∷
     30 ∷ 6 ∷ 0 ∷ 0 ∷ 2 ∷ 0 ∷ 0 ∷ 0 ∷ 0 ∷
     1 ∷ 0 ∷ 0 ∷ 0 ∷ 0 ∷ 3 ∷ 0 ∷ 0 ∷ 0 ∷
     8 ∷ 7 ∷ 0 ∷ 0 ∷ 1 ∷ 4 ∷ 0 ∷ 0 ∷ 0 ∷
-    30 ∷ 7 ∷ 0 ∷ 0 ∷ 5 ∷ 0 ∷ 0 ∷ 0 ∷ 0 ∷ []) ∷
-    case 1 1 "let a\nlet b = a\n" 9 0 3
-    (0 ∷ 9 ∷ 0 ∷ 3 ∷ 1 ∷
+    30 ∷ 7 ∷ 0 ∷ 0 ∷ 5 ∷ 0 ∷ 0 ∷ 0 ∷ 0 ∷
+    1 ∷ 2 ∷ 3 ∷ 4 ∷ 5 ∷ 6 ∷ 7 ∷ 9 ∷ 9 ∷ []) ∷
+    case 1 1 "let a\nlet b = a\n" 9 0 3 9
+    (0 ∷ 9 ∷ 0 ∷ 3 ∷ 1 ∷ 38 ∷
     19 ∷ 2 ∷ 0 ∷ 0 ∷ 0 ∷ 0 ∷ 0 ∷ 0 ∷ 3 ∷
     2 ∷ 7 ∷ 0 ∷ 0 ∷ 0 ∷ 0 ∷ 0 ∷ 0 ∷ 0 ∷
-    19 ∷ 5 ∷ 0 ∷ 0 ∷ 2 ∷ 0 ∷ 0 ∷ 0 ∷ 0 ∷ []) ∷
-    case 1 1 "for let i = 0; i < 9; i = i + 1 { continue }\n" 20 0 13
-    (0 ∷ 20 ∷ 0 ∷ 13 ∷ 13 ∷
+    19 ∷ 5 ∷ 0 ∷ 0 ∷ 2 ∷ 0 ∷ 0 ∷ 0 ∷ 0 ∷
+    1 ∷ 2 ∷ 4 ∷ 4 ∷ 5 ∷ 6 ∷ 7 ∷ 9 ∷ 9 ∷ []) ∷
+    case 1 1 "for let i = 0; i < 9; i = i + 1 { continue }\n" 20 0 13 20
+    (0 ∷ 20 ∷ 0 ∷ 13 ∷ 13 ∷ 159 ∷
     13 ∷ 5 ∷ 0 ∷ 0 ∷ 0 ∷ 0 ∷ 0 ∷ 0 ∷ 0 ∷
     19 ∷ 3 ∷ 0 ∷ 0 ∷ 1 ∷ 0 ∷ 0 ∷ 0 ∷ 0 ∷
     2 ∷ 7 ∷ 0 ∷ 0 ∷ 0 ∷ 0 ∷ 0 ∷ 0 ∷ 0 ∷
@@ -92,31 +100,35 @@ cases-1 =
     5 ∷ 11 ∷ 0 ∷ 0 ∷ 9 ∷ 0 ∷ 0 ∷ 0 ∷ 0 ∷
     26 ∷ 17 ∷ 0 ∷ 0 ∷ 0 ∷ 0 ∷ 0 ∷ 0 ∷ 0 ∷
     20 ∷ 0 ∷ 0 ∷ 0 ∷ 11 ∷ 0 ∷ 0 ∷ 0 ∷ 0 ∷
-    22 ∷ 1 ∷ 0 ∷ 0 ∷ 2 ∷ 5 ∷ 10 ∷ 12 ∷ 0 ∷ []) ∷
-    case 1 1 "for ; a; b c\n" 8 0 5
-    (0 ∷ 8 ∷ 0 ∷ 5 ∷ 5 ∷
+    22 ∷ 1 ∷ 0 ∷ 0 ∷ 2 ∷ 5 ∷ 10 ∷ 12 ∷ 0 ∷
+    1 ∷ 2 ∷ 3 ∷ 4 ∷ 5 ∷ 6 ∷ 7 ∷ 8 ∷ 9 ∷ 10 ∷ 11 ∷ 12 ∷ 13 ∷ 14 ∷ 15 ∷ 16 ∷ 17 ∷ 18 ∷ 20 ∷ 20 ∷ []) ∷
+    case 1 1 "for ; a; b c\n" 8 0 5 8
+    (0 ∷ 8 ∷ 0 ∷ 5 ∷ 5 ∷ 97 ∷
     2 ∷ 3 ∷ 0 ∷ 0 ∷ 0 ∷ 0 ∷ 0 ∷ 0 ∷ 0 ∷
     2 ∷ 5 ∷ 0 ∷ 0 ∷ 0 ∷ 0 ∷ 0 ∷ 0 ∷ 0 ∷
     2 ∷ 6 ∷ 0 ∷ 0 ∷ 0 ∷ 0 ∷ 0 ∷ 0 ∷ 0 ∷
     30 ∷ 6 ∷ 0 ∷ 0 ∷ 3 ∷ 0 ∷ 0 ∷ 0 ∷ 0 ∷
-    22 ∷ 1 ∷ 0 ∷ 0 ∷ 0 ∷ 1 ∷ 2 ∷ 4 ∷ 0 ∷ []) ∷
-    case 1 1 "for k, v in d { break }\n" 11 0 6
-    (0 ∷ 11 ∷ 0 ∷ 6 ∷ 6 ∷
+    22 ∷ 1 ∷ 0 ∷ 0 ∷ 0 ∷ 1 ∷ 2 ∷ 4 ∷ 0 ∷
+    1 ∷ 2 ∷ 3 ∷ 4 ∷ 5 ∷ 6 ∷ 8 ∷ 8 ∷ []) ∷
+    case 1 1 "for k, v in d { break }\n" 11 0 6 11
+    (0 ∷ 11 ∷ 0 ∷ 6 ∷ 6 ∷ 59 ∷
     32 ∷ 2 ∷ 0 ∷ 0 ∷ 0 ∷ 0 ∷ 0 ∷ 0 ∷ 2 ∷
     32 ∷ 4 ∷ 0 ∷ 0 ∷ 0 ∷ 0 ∷ 0 ∷ 0 ∷ 0 ∷
     2 ∷ 6 ∷ 0 ∷ 0 ∷ 0 ∷ 0 ∷ 0 ∷ 0 ∷ 0 ∷
     28 ∷ 8 ∷ 0 ∷ 0 ∷ 0 ∷ 0 ∷ 0 ∷ 0 ∷ 0 ∷
     20 ∷ 0 ∷ 0 ∷ 0 ∷ 4 ∷ 0 ∷ 0 ∷ 0 ∷ 0 ∷
-    23 ∷ 1 ∷ 0 ∷ 0 ∷ 1 ∷ 3 ∷ 5 ∷ 0 ∷ 0 ∷ []) ∷
-    case 1 1 "while a { break\n continue }\n" 9 0 5
-    (0 ∷ 9 ∷ 0 ∷ 5 ∷ 5 ∷
+    23 ∷ 1 ∷ 0 ∷ 0 ∷ 1 ∷ 3 ∷ 5 ∷ 0 ∷ 0 ∷
+    1 ∷ 2 ∷ 3 ∷ 4 ∷ 5 ∷ 6 ∷ 7 ∷ 8 ∷ 9 ∷ 11 ∷ 11 ∷ []) ∷
+    case 1 1 "while a { break\n continue }\n" 9 0 5 9
+    (0 ∷ 9 ∷ 0 ∷ 5 ∷ 5 ∷ 68 ∷
     2 ∷ 2 ∷ 0 ∷ 0 ∷ 0 ∷ 0 ∷ 0 ∷ 0 ∷ 0 ∷
     28 ∷ 4 ∷ 0 ∷ 0 ∷ 0 ∷ 0 ∷ 0 ∷ 0 ∷ 3 ∷
     26 ∷ 6 ∷ 0 ∷ 0 ∷ 0 ∷ 0 ∷ 0 ∷ 0 ∷ 0 ∷
     20 ∷ 0 ∷ 0 ∷ 0 ∷ 2 ∷ 0 ∷ 0 ∷ 0 ∷ 0 ∷
-    24 ∷ 1 ∷ 0 ∷ 0 ∷ 1 ∷ 4 ∷ 0 ∷ 0 ∷ 0 ∷ []) ∷
-    case 1 1 "try { f() } catch e { g(e) }\n" 16 0 10
-    (0 ∷ 16 ∷ 0 ∷ 10 ∷ 10 ∷
+    24 ∷ 1 ∷ 0 ∷ 0 ∷ 1 ∷ 4 ∷ 0 ∷ 0 ∷ 0 ∷
+    1 ∷ 2 ∷ 3 ∷ 4 ∷ 6 ∷ 6 ∷ 7 ∷ 9 ∷ 9 ∷ []) ∷
+    case 1 1 "try { f() } catch e { g(e) }\n" 16 0 10 16
+    (0 ∷ 16 ∷ 0 ∷ 10 ∷ 10 ∷ 141 ∷
     2 ∷ 3 ∷ 0 ∷ 0 ∷ 0 ∷ 0 ∷ 0 ∷ 0 ∷ 0 ∷
     8 ∷ 5 ∷ 0 ∷ 0 ∷ 1 ∷ 0 ∷ 0 ∷ 0 ∷ 0 ∷
     30 ∷ 5 ∷ 0 ∷ 0 ∷ 2 ∷ 0 ∷ 0 ∷ 0 ∷ 0 ∷
@@ -126,16 +138,18 @@ cases-1 =
     8 ∷ 13 ∷ 0 ∷ 0 ∷ 5 ∷ 6 ∷ 0 ∷ 0 ∷ 0 ∷
     30 ∷ 13 ∷ 0 ∷ 0 ∷ 7 ∷ 0 ∷ 0 ∷ 0 ∷ 0 ∷
     20 ∷ 0 ∷ 0 ∷ 0 ∷ 8 ∷ 0 ∷ 0 ∷ 0 ∷ 0 ∷
-    29 ∷ 8 ∷ 0 ∷ 0 ∷ 4 ∷ 9 ∷ 0 ∷ 0 ∷ 0 ∷ []) ∷
-    case 1 1 "try a catch b c\n" 7 0 5
-    (0 ∷ 7 ∷ 0 ∷ 5 ∷ 5 ∷
+    29 ∷ 8 ∷ 0 ∷ 0 ∷ 4 ∷ 9 ∷ 0 ∷ 0 ∷ 0 ∷
+    1 ∷ 2 ∷ 3 ∷ 4 ∷ 5 ∷ 6 ∷ 7 ∷ 8 ∷ 9 ∷ 10 ∷ 11 ∷ 12 ∷ 13 ∷ 14 ∷ 16 ∷ 16 ∷ []) ∷
+    case 1 1 "try a catch b c\n" 7 0 5 7
+    (0 ∷ 7 ∷ 0 ∷ 5 ∷ 5 ∷ 82 ∷
     2 ∷ 2 ∷ 0 ∷ 0 ∷ 0 ∷ 0 ∷ 0 ∷ 0 ∷ 0 ∷
     30 ∷ 2 ∷ 0 ∷ 0 ∷ 1 ∷ 0 ∷ 0 ∷ 0 ∷ 0 ∷
     2 ∷ 5 ∷ 0 ∷ 0 ∷ 0 ∷ 0 ∷ 0 ∷ 0 ∷ 0 ∷
     30 ∷ 5 ∷ 0 ∷ 0 ∷ 3 ∷ 0 ∷ 0 ∷ 0 ∷ 0 ∷
-    29 ∷ 4 ∷ 0 ∷ 0 ∷ 2 ∷ 4 ∷ 0 ∷ 0 ∷ 0 ∷ []) ∷
-    case 1 1 "if a { b } elif c { d } elif e {} else { f g }\n" 21 0 14
-    (0 ∷ 21 ∷ 0 ∷ 14 ∷ 14 ∷
+    29 ∷ 4 ∷ 0 ∷ 0 ∷ 2 ∷ 4 ∷ 0 ∷ 0 ∷ 0 ∷
+    1 ∷ 2 ∷ 3 ∷ 4 ∷ 5 ∷ 7 ∷ 7 ∷ []) ∷
+    case 1 1 "if a { b } elif c { d } elif e {} else { f g }\n" 21 0 14 21
+    (0 ∷ 21 ∷ 0 ∷ 14 ∷ 14 ∷ 250 ∷
     2 ∷ 2 ∷ 0 ∷ 0 ∷ 0 ∷ 0 ∷ 0 ∷ 0 ∷ 0 ∷
     2 ∷ 4 ∷ 0 ∷ 0 ∷ 0 ∷ 0 ∷ 0 ∷ 0 ∷ 0 ∷
     30 ∷ 4 ∷ 0 ∷ 0 ∷ 2 ∷ 0 ∷ 0 ∷ 0 ∷ 0 ∷
@@ -149,44 +163,50 @@ cases-1 =
     30 ∷ 17 ∷ 0 ∷ 0 ∷ 10 ∷ 0 ∷ 0 ∷ 0 ∷ 13 ∷
     2 ∷ 18 ∷ 0 ∷ 0 ∷ 0 ∷ 0 ∷ 0 ∷ 0 ∷ 0 ∷
     30 ∷ 18 ∷ 0 ∷ 0 ∷ 12 ∷ 0 ∷ 0 ∷ 0 ∷ 0 ∷
-    25 ∷ 1 ∷ 0 ∷ 0 ∷ 1 ∷ 3 ∷ 7 ∷ 11 ∷ 0 ∷ []) ∷
-    case 1 1 "if a {} else {}\n" 9 0 2
-    (0 ∷ 9 ∷ 0 ∷ 2 ∷ 2 ∷
+    25 ∷ 1 ∷ 0 ∷ 0 ∷ 1 ∷ 3 ∷ 7 ∷ 11 ∷ 0 ∷
+    1 ∷ 2 ∷ 3 ∷ 4 ∷ 5 ∷ 6 ∷ 7 ∷ 8 ∷ 9 ∷ 10 ∷ 11 ∷ 12 ∷ 13 ∷ 14 ∷ 15 ∷ 16 ∷ 17 ∷ 18 ∷ 19 ∷ 21 ∷ 21 ∷ []) ∷
+    case 1 1 "if a {} else {}\n" 9 0 2 9
+    (0 ∷ 9 ∷ 0 ∷ 2 ∷ 2 ∷ 40 ∷
     2 ∷ 2 ∷ 0 ∷ 0 ∷ 0 ∷ 0 ∷ 0 ∷ 0 ∷ 0 ∷
-    25 ∷ 1 ∷ 0 ∷ 0 ∷ 1 ∷ 0 ∷ 0 ∷ 0 ∷ 0 ∷ []) ∷
-    case 1 1 "return a\nreturn\n" 6 0 3
-    (0 ∷ 6 ∷ 0 ∷ 3 ∷ 2 ∷
+    25 ∷ 1 ∷ 0 ∷ 0 ∷ 1 ∷ 0 ∷ 0 ∷ 0 ∷ 0 ∷
+    1 ∷ 2 ∷ 3 ∷ 4 ∷ 5 ∷ 6 ∷ 7 ∷ 9 ∷ 9 ∷ []) ∷
+    case 1 1 "return a\nreturn\n" 6 0 3 6
+    (0 ∷ 6 ∷ 0 ∷ 3 ∷ 2 ∷ 44 ∷
     2 ∷ 2 ∷ 0 ∷ 0 ∷ 0 ∷ 0 ∷ 0 ∷ 0 ∷ 0 ∷
     27 ∷ 1 ∷ 0 ∷ 0 ∷ 1 ∷ 0 ∷ 0 ∷ 0 ∷ 3 ∷
-    27 ∷ 4 ∷ 0 ∷ 0 ∷ 0 ∷ 0 ∷ 0 ∷ 0 ∷ 0 ∷ []) ∷
-    case 1 1 "{ a b {} }\n" 8 0 6
-    (0 ∷ 8 ∷ 0 ∷ 6 ∷ 6 ∷
+    27 ∷ 4 ∷ 0 ∷ 0 ∷ 0 ∷ 0 ∷ 0 ∷ 0 ∷ 0 ∷
+    1 ∷ 2 ∷ 4 ∷ 4 ∷ 6 ∷ 6 ∷ []) ∷
+    case 1 1 "{ a b {} }\n" 8 0 6 8
+    (0 ∷ 8 ∷ 0 ∷ 6 ∷ 6 ∷ 102 ∷
     2 ∷ 2 ∷ 0 ∷ 0 ∷ 0 ∷ 0 ∷ 0 ∷ 0 ∷ 0 ∷
     30 ∷ 2 ∷ 0 ∷ 0 ∷ 1 ∷ 0 ∷ 0 ∷ 0 ∷ 4 ∷
     2 ∷ 3 ∷ 0 ∷ 0 ∷ 0 ∷ 0 ∷ 0 ∷ 0 ∷ 0 ∷
     30 ∷ 3 ∷ 0 ∷ 0 ∷ 3 ∷ 0 ∷ 0 ∷ 0 ∷ 5 ∷
     20 ∷ 0 ∷ 0 ∷ 0 ∷ 0 ∷ 0 ∷ 0 ∷ 0 ∷ 0 ∷
-    20 ∷ 0 ∷ 0 ∷ 0 ∷ 2 ∷ 0 ∷ 0 ∷ 0 ∷ 0 ∷ []) ∷
-    case 1 1 "[1, \"x\", true, false, nil,]\n" 14 0 7
-    (0 ∷ 14 ∷ 0 ∷ 7 ∷ 7 ∷
+    20 ∷ 0 ∷ 0 ∷ 0 ∷ 2 ∷ 0 ∷ 0 ∷ 0 ∷ 0 ∷
+    1 ∷ 2 ∷ 3 ∷ 4 ∷ 5 ∷ 6 ∷ 8 ∷ 8 ∷ []) ∷
+    case 1 1 "[1, \"x\", true, false, nil,]\n" 14 0 7 14
+    (0 ∷ 14 ∷ 0 ∷ 7 ∷ 7 ∷ 167 ∷
     13 ∷ 2 ∷ 0 ∷ 0 ∷ 0 ∷ 0 ∷ 0 ∷ 0 ∷ 2 ∷
     13 ∷ 4 ∷ 0 ∷ 0 ∷ 0 ∷ 0 ∷ 0 ∷ 0 ∷ 3 ∷
     13 ∷ 6 ∷ 0 ∷ 0 ∷ 0 ∷ 0 ∷ 0 ∷ 0 ∷ 4 ∷
     13 ∷ 8 ∷ 0 ∷ 0 ∷ 0 ∷ 0 ∷ 0 ∷ 0 ∷ 5 ∷
     13 ∷ 10 ∷ 0 ∷ 0 ∷ 0 ∷ 0 ∷ 0 ∷ 0 ∷ 0 ∷
     3 ∷ 12 ∷ 0 ∷ 0 ∷ 1 ∷ 0 ∷ 0 ∷ 0 ∷ 0 ∷
-    30 ∷ 12 ∷ 0 ∷ 0 ∷ 6 ∷ 0 ∷ 0 ∷ 0 ∷ 0 ∷ []) ∷
-    case 1 1 "a = [[], [b]]\n" 12 0 7
-    (0 ∷ 12 ∷ 0 ∷ 7 ∷ 7 ∷
+    30 ∷ 12 ∷ 0 ∷ 0 ∷ 6 ∷ 0 ∷ 0 ∷ 0 ∷ 0 ∷
+    1 ∷ 2 ∷ 3 ∷ 4 ∷ 5 ∷ 6 ∷ 7 ∷ 8 ∷ 9 ∷ 10 ∷ 11 ∷ 12 ∷ 14 ∷ 14 ∷ []) ∷
+    case 1 1 "a = [[], [b]]\n" 12 0 7 12
+    (0 ∷ 12 ∷ 0 ∷ 7 ∷ 7 ∷ 158 ∷
     2 ∷ 1 ∷ 0 ∷ 0 ∷ 0 ∷ 0 ∷ 0 ∷ 0 ∷ 0 ∷
     3 ∷ 5 ∷ 0 ∷ 0 ∷ 0 ∷ 0 ∷ 0 ∷ 0 ∷ 4 ∷
     2 ∷ 8 ∷ 0 ∷ 0 ∷ 0 ∷ 0 ∷ 0 ∷ 0 ∷ 0 ∷
     3 ∷ 9 ∷ 0 ∷ 0 ∷ 3 ∷ 0 ∷ 0 ∷ 0 ∷ 0 ∷
     3 ∷ 10 ∷ 0 ∷ 0 ∷ 2 ∷ 0 ∷ 0 ∷ 0 ∷ 0 ∷
     5 ∷ 1 ∷ 0 ∷ 0 ∷ 5 ∷ 0 ∷ 0 ∷ 0 ∷ 0 ∷
-    30 ∷ 10 ∷ 0 ∷ 0 ∷ 6 ∷ 0 ∷ 0 ∷ 0 ∷ 0 ∷ []) ∷
-    case 1 1 "a = {b: 1, \"c\": {},}\n" 15 0 8
-    (0 ∷ 15 ∷ 0 ∷ 8 ∷ 8 ∷
+    30 ∷ 10 ∷ 0 ∷ 0 ∷ 6 ∷ 0 ∷ 0 ∷ 0 ∷ 0 ∷
+    1 ∷ 2 ∷ 3 ∷ 4 ∷ 5 ∷ 6 ∷ 7 ∷ 8 ∷ 9 ∷ 10 ∷ 12 ∷ 12 ∷ []) ∷
+    case 1 1 "a = {b: 1, \"c\": {},}\n" 15 0 8 15
+    (0 ∷ 15 ∷ 0 ∷ 8 ∷ 8 ∷ 175 ∷
     2 ∷ 1 ∷ 0 ∷ 0 ∷ 0 ∷ 0 ∷ 0 ∷ 0 ∷ 0 ∷
     2 ∷ 4 ∷ 0 ∷ 0 ∷ 0 ∷ 0 ∷ 0 ∷ 0 ∷ 3 ∷
     13 ∷ 6 ∷ 0 ∷ 0 ∷ 0 ∷ 0 ∷ 0 ∷ 0 ∷ 4 ∷
@@ -194,9 +214,10 @@ cases-1 =
     4 ∷ 11 ∷ 0 ∷ 0 ∷ 0 ∷ 0 ∷ 0 ∷ 0 ∷ 0 ∷
     4 ∷ 13 ∷ 0 ∷ 0 ∷ 2 ∷ 0 ∷ 0 ∷ 0 ∷ 0 ∷
     5 ∷ 1 ∷ 0 ∷ 0 ∷ 6 ∷ 0 ∷ 0 ∷ 0 ∷ 0 ∷
-    30 ∷ 13 ∷ 0 ∷ 0 ∷ 7 ∷ 0 ∷ 0 ∷ 0 ∷ 0 ∷ []) ∷
-    case 1 1 "f()(1, 2).a.b(c,)\n" 18 0 10
-    (0 ∷ 18 ∷ 0 ∷ 10 ∷ 10 ∷
+    30 ∷ 13 ∷ 0 ∷ 0 ∷ 7 ∷ 0 ∷ 0 ∷ 0 ∷ 0 ∷
+    1 ∷ 2 ∷ 3 ∷ 4 ∷ 5 ∷ 6 ∷ 7 ∷ 8 ∷ 9 ∷ 10 ∷ 11 ∷ 12 ∷ 13 ∷ 15 ∷ 15 ∷ []) ∷
+    case 1 1 "f()(1, 2).a.b(c,)\n" 18 0 10 18
+    (0 ∷ 18 ∷ 0 ∷ 10 ∷ 10 ∷ 126 ∷
     2 ∷ 1 ∷ 0 ∷ 0 ∷ 0 ∷ 0 ∷ 0 ∷ 0 ∷ 0 ∷
     8 ∷ 3 ∷ 0 ∷ 0 ∷ 1 ∷ 0 ∷ 0 ∷ 0 ∷ 0 ∷
     13 ∷ 5 ∷ 0 ∷ 0 ∷ 0 ∷ 0 ∷ 0 ∷ 0 ∷ 4 ∷
@@ -206,9 +227,10 @@ cases-1 =
     9 ∷ 12 ∷ 0 ∷ 0 ∷ 6 ∷ 0 ∷ 0 ∷ 0 ∷ 0 ∷
     2 ∷ 14 ∷ 0 ∷ 0 ∷ 0 ∷ 0 ∷ 0 ∷ 0 ∷ 0 ∷
     8 ∷ 16 ∷ 0 ∷ 0 ∷ 7 ∷ 8 ∷ 0 ∷ 0 ∷ 0 ∷
-    30 ∷ 16 ∷ 0 ∷ 0 ∷ 9 ∷ 0 ∷ 0 ∷ 0 ∷ 0 ∷ []) ∷
-    case 1 1 "a[1]\na[1:]\na[1:2]\na[1:2:]\n" 27 0 18
-    (0 ∷ 27 ∷ 0 ∷ 18 ∷ 4 ∷
+    30 ∷ 16 ∷ 0 ∷ 0 ∷ 9 ∷ 0 ∷ 0 ∷ 0 ∷ 0 ∷
+    1 ∷ 2 ∷ 3 ∷ 4 ∷ 5 ∷ 6 ∷ 7 ∷ 8 ∷ 9 ∷ 10 ∷ 11 ∷ 12 ∷ 13 ∷ 14 ∷ 15 ∷ 16 ∷ 18 ∷ 18 ∷ []) ∷
+    case 1 1 "a[1]\na[1:]\na[1:2]\na[1:2:]\n" 27 0 18 27
+    (0 ∷ 27 ∷ 0 ∷ 18 ∷ 4 ∷ 311 ∷
     2 ∷ 1 ∷ 0 ∷ 0 ∷ 0 ∷ 0 ∷ 0 ∷ 0 ∷ 0 ∷
     13 ∷ 3 ∷ 0 ∷ 0 ∷ 0 ∷ 0 ∷ 0 ∷ 0 ∷ 0 ∷
     6 ∷ 2 ∷ 0 ∷ 0 ∷ 1 ∷ 2 ∷ 0 ∷ 0 ∷ 0 ∷
@@ -226,9 +248,10 @@ cases-1 =
     13 ∷ 21 ∷ 0 ∷ 0 ∷ 0 ∷ 0 ∷ 0 ∷ 0 ∷ 0 ∷
     13 ∷ 23 ∷ 0 ∷ 0 ∷ 0 ∷ 0 ∷ 0 ∷ 0 ∷ 0 ∷
     6 ∷ 20 ∷ 22 ∷ 24 ∷ 14 ∷ 15 ∷ 16 ∷ 0 ∷ 0 ∷
-    30 ∷ 25 ∷ 0 ∷ 0 ∷ 17 ∷ 0 ∷ 0 ∷ 0 ∷ 0 ∷ []) ∷
-    case 1 1 "a[1:2:3]\na[:2]\na[:2:3]\n" 24 0 15
-    (0 ∷ 24 ∷ 0 ∷ 15 ∷ 6 ∷
+    30 ∷ 25 ∷ 0 ∷ 0 ∷ 17 ∷ 0 ∷ 0 ∷ 0 ∷ 0 ∷
+    1 ∷ 2 ∷ 3 ∷ 4 ∷ 6 ∷ 6 ∷ 7 ∷ 8 ∷ 9 ∷ 10 ∷ 12 ∷ 12 ∷ 13 ∷ 14 ∷ 15 ∷ 16 ∷ 17 ∷ 19 ∷ 19 ∷ 20 ∷ 21 ∷ 22 ∷ 23 ∷ 24 ∷ 25 ∷ 27 ∷ 27 ∷ []) ∷
+    case 1 1 "a[1:2:3]\na[:2]\na[:2:3]\n" 24 0 15 24
+    (0 ∷ 24 ∷ 0 ∷ 15 ∷ 6 ∷ 264 ∷
     2 ∷ 1 ∷ 0 ∷ 0 ∷ 0 ∷ 0 ∷ 0 ∷ 0 ∷ 0 ∷
     13 ∷ 3 ∷ 0 ∷ 0 ∷ 0 ∷ 0 ∷ 0 ∷ 0 ∷ 0 ∷
     13 ∷ 5 ∷ 0 ∷ 0 ∷ 0 ∷ 0 ∷ 0 ∷ 0 ∷ 0 ∷
@@ -243,9 +266,10 @@ cases-1 =
     13 ∷ 19 ∷ 0 ∷ 0 ∷ 0 ∷ 0 ∷ 0 ∷ 0 ∷ 0 ∷
     13 ∷ 21 ∷ 0 ∷ 0 ∷ 0 ∷ 0 ∷ 0 ∷ 0 ∷ 0 ∷
     6 ∷ 17 ∷ 18 ∷ 20 ∷ 11 ∷ 0 ∷ 12 ∷ 13 ∷ 0 ∷
-    30 ∷ 22 ∷ 0 ∷ 0 ∷ 14 ∷ 0 ∷ 0 ∷ 0 ∷ 0 ∷ []) ∷
-    case 1 1 "a[::3]\na[1::3]\n" 16 0 9
-    (0 ∷ 16 ∷ 0 ∷ 9 ∷ 4 ∷
+    30 ∷ 22 ∷ 0 ∷ 0 ∷ 14 ∷ 0 ∷ 0 ∷ 0 ∷ 0 ∷
+    1 ∷ 2 ∷ 3 ∷ 4 ∷ 5 ∷ 6 ∷ 7 ∷ 8 ∷ 10 ∷ 10 ∷ 11 ∷ 12 ∷ 13 ∷ 14 ∷ 16 ∷ 16 ∷ 17 ∷ 18 ∷ 19 ∷ 20 ∷ 21 ∷ 22 ∷ 24 ∷ 24 ∷ []) ∷
+    case 1 1 "a[::3]\na[1::3]\n" 16 0 9 16
+    (0 ∷ 16 ∷ 0 ∷ 9 ∷ 4 ∷ 152 ∷
     2 ∷ 1 ∷ 0 ∷ 0 ∷ 0 ∷ 0 ∷ 0 ∷ 0 ∷ 0 ∷
     13 ∷ 5 ∷ 0 ∷ 0 ∷ 0 ∷ 0 ∷ 0 ∷ 0 ∷ 0 ∷
     6 ∷ 2 ∷ 3 ∷ 4 ∷ 1 ∷ 0 ∷ 0 ∷ 2 ∷ 0 ∷
@@ -254,9 +278,10 @@ cases-1 =
     13 ∷ 10 ∷ 0 ∷ 0 ∷ 0 ∷ 0 ∷ 0 ∷ 0 ∷ 0 ∷
     13 ∷ 13 ∷ 0 ∷ 0 ∷ 0 ∷ 0 ∷ 0 ∷ 0 ∷ 0 ∷
     6 ∷ 9 ∷ 11 ∷ 12 ∷ 5 ∷ 6 ∷ 0 ∷ 7 ∷ 0 ∷
-    30 ∷ 14 ∷ 0 ∷ 0 ∷ 8 ∷ 0 ∷ 0 ∷ 0 ∷ 0 ∷ []) ∷
-    case 1 1 "a = b = 1\na.b = 1\n" 13 0 11
-    (0 ∷ 13 ∷ 0 ∷ 11 ∷ 6 ∷
+    30 ∷ 14 ∷ 0 ∷ 0 ∷ 8 ∷ 0 ∷ 0 ∷ 0 ∷ 0 ∷
+    1 ∷ 2 ∷ 3 ∷ 4 ∷ 5 ∷ 6 ∷ 8 ∷ 8 ∷ 9 ∷ 10 ∷ 11 ∷ 12 ∷ 13 ∷ 14 ∷ 16 ∷ 16 ∷ []) ∷
+    case 1 1 "a = b = 1\na.b = 1\n" 13 0 11 13
+    (0 ∷ 13 ∷ 0 ∷ 11 ∷ 6 ∷ 147 ∷
     2 ∷ 1 ∷ 0 ∷ 0 ∷ 0 ∷ 0 ∷ 0 ∷ 0 ∷ 0 ∷
     2 ∷ 3 ∷ 0 ∷ 0 ∷ 0 ∷ 0 ∷ 0 ∷ 0 ∷ 0 ∷
     13 ∷ 5 ∷ 0 ∷ 0 ∷ 0 ∷ 0 ∷ 0 ∷ 0 ∷ 0 ∷
@@ -267,9 +292,10 @@ cases-1 =
     9 ∷ 9 ∷ 0 ∷ 0 ∷ 7 ∷ 0 ∷ 0 ∷ 0 ∷ 0 ∷
     13 ∷ 11 ∷ 0 ∷ 0 ∷ 0 ∷ 0 ∷ 0 ∷ 0 ∷ 0 ∷
     10 ∷ 9 ∷ 0 ∷ 0 ∷ 7 ∷ 9 ∷ 0 ∷ 0 ∷ 0 ∷
-    30 ∷ 11 ∷ 0 ∷ 0 ∷ 10 ∷ 0 ∷ 0 ∷ 0 ∷ 0 ∷ []) ∷
-    case 1 1 "a[1] = 2\na[1][2] = 3\n" 18 0 14
-    (0 ∷ 18 ∷ 0 ∷ 14 ∷ 6 ∷
+    30 ∷ 11 ∷ 0 ∷ 0 ∷ 10 ∷ 0 ∷ 0 ∷ 0 ∷ 0 ∷
+    1 ∷ 2 ∷ 3 ∷ 4 ∷ 5 ∷ 7 ∷ 7 ∷ 8 ∷ 9 ∷ 10 ∷ 11 ∷ 13 ∷ 13 ∷ []) ∷
+    case 1 1 "a[1] = 2\na[1][2] = 3\n" 18 0 14 18
+    (0 ∷ 18 ∷ 0 ∷ 14 ∷ 6 ∷ 199 ∷
     2 ∷ 1 ∷ 0 ∷ 0 ∷ 0 ∷ 0 ∷ 0 ∷ 0 ∷ 0 ∷
     13 ∷ 3 ∷ 0 ∷ 0 ∷ 0 ∷ 0 ∷ 0 ∷ 0 ∷ 0 ∷
     6 ∷ 2 ∷ 0 ∷ 0 ∷ 1 ∷ 2 ∷ 0 ∷ 0 ∷ 0 ∷
@@ -283,9 +309,10 @@ cases-1 =
     6 ∷ 12 ∷ 0 ∷ 0 ∷ 9 ∷ 10 ∷ 0 ∷ 0 ∷ 0 ∷
     13 ∷ 16 ∷ 0 ∷ 0 ∷ 0 ∷ 0 ∷ 0 ∷ 0 ∷ 0 ∷
     5 ∷ 8 ∷ 0 ∷ 0 ∷ 12 ∷ 11 ∷ 0 ∷ 0 ∷ 0 ∷
-    30 ∷ 16 ∷ 0 ∷ 0 ∷ 13 ∷ 0 ∷ 0 ∷ 0 ∷ 0 ∷ []) ∷
-    case 1 1 "a.b[1:2] = 3\na[1].b[2] = 3\n" 24 0 17
-    (0 ∷ 24 ∷ 0 ∷ 17 ∷ 8 ∷
+    30 ∷ 16 ∷ 0 ∷ 0 ∷ 13 ∷ 0 ∷ 0 ∷ 0 ∷ 0 ∷
+    1 ∷ 2 ∷ 3 ∷ 4 ∷ 5 ∷ 6 ∷ 8 ∷ 8 ∷ 9 ∷ 10 ∷ 11 ∷ 12 ∷ 13 ∷ 14 ∷ 15 ∷ 16 ∷ 18 ∷ 18 ∷ []) ∷
+    case 1 1 "a.b[1:2] = 3\na[1].b[2] = 3\n" 24 0 17 24
+    (0 ∷ 24 ∷ 0 ∷ 17 ∷ 8 ∷ 229 ∷
     2 ∷ 1 ∷ 0 ∷ 0 ∷ 0 ∷ 0 ∷ 0 ∷ 0 ∷ 0 ∷
     9 ∷ 3 ∷ 0 ∷ 0 ∷ 1 ∷ 0 ∷ 0 ∷ 0 ∷ 0 ∷
     13 ∷ 5 ∷ 0 ∷ 0 ∷ 0 ∷ 0 ∷ 0 ∷ 0 ∷ 0 ∷
@@ -302,9 +329,10 @@ cases-1 =
     6 ∷ 18 ∷ 0 ∷ 0 ∷ 12 ∷ 13 ∷ 0 ∷ 0 ∷ 0 ∷
     13 ∷ 22 ∷ 0 ∷ 0 ∷ 0 ∷ 0 ∷ 0 ∷ 0 ∷ 0 ∷
     10 ∷ 17 ∷ 0 ∷ 0 ∷ 11 ∷ 15 ∷ 14 ∷ 0 ∷ 0 ∷
-    30 ∷ 22 ∷ 0 ∷ 0 ∷ 16 ∷ 0 ∷ 0 ∷ 0 ∷ 0 ∷ []) ∷
-    case 1 1 "super.m()\nsuper(a)\nthis\n" 14 0 9
-    (0 ∷ 14 ∷ 0 ∷ 9 ∷ 3 ∷
+    30 ∷ 22 ∷ 0 ∷ 0 ∷ 16 ∷ 0 ∷ 0 ∷ 0 ∷ 0 ∷
+    1 ∷ 2 ∷ 3 ∷ 4 ∷ 5 ∷ 6 ∷ 7 ∷ 8 ∷ 9 ∷ 10 ∷ 12 ∷ 12 ∷ 13 ∷ 14 ∷ 15 ∷ 16 ∷ 17 ∷ 18 ∷ 19 ∷ 20 ∷ 21 ∷ 22 ∷ 24 ∷ 24 ∷ []) ∷
+    case 1 1 "super.m()\nsuper(a)\nthis\n" 14 0 9 14
+    (0 ∷ 14 ∷ 0 ∷ 9 ∷ 3 ∷ 168 ∷
     11 ∷ 1 ∷ 3 ∷ 0 ∷ 0 ∷ 0 ∷ 0 ∷ 0 ∷ 0 ∷
     8 ∷ 5 ∷ 0 ∷ 0 ∷ 1 ∷ 0 ∷ 0 ∷ 0 ∷ 0 ∷
     30 ∷ 5 ∷ 0 ∷ 0 ∷ 2 ∷ 0 ∷ 0 ∷ 0 ∷ 7 ∷
@@ -313,9 +341,10 @@ cases-1 =
     8 ∷ 10 ∷ 0 ∷ 0 ∷ 4 ∷ 5 ∷ 0 ∷ 0 ∷ 0 ∷
     30 ∷ 10 ∷ 0 ∷ 0 ∷ 6 ∷ 0 ∷ 0 ∷ 0 ∷ 9 ∷
     15 ∷ 12 ∷ 0 ∷ 0 ∷ 0 ∷ 0 ∷ 0 ∷ 0 ∷ 0 ∷
-    30 ∷ 12 ∷ 0 ∷ 0 ∷ 8 ∷ 0 ∷ 0 ∷ 0 ∷ 0 ∷ []) ∷
-    case 1 1 "not a\n- - a\nnot - not a\n" 13 0 11
-    (0 ∷ 13 ∷ 0 ∷ 11 ∷ 6 ∷
+    30 ∷ 12 ∷ 0 ∷ 0 ∷ 8 ∷ 0 ∷ 0 ∷ 0 ∷ 0 ∷
+    1 ∷ 2 ∷ 3 ∷ 4 ∷ 5 ∷ 7 ∷ 7 ∷ 8 ∷ 9 ∷ 10 ∷ 12 ∷ 12 ∷ 14 ∷ 14 ∷ []) ∷
+    case 1 1 "not a\n- - a\nnot - not a\n" 13 0 11 13
+    (0 ∷ 13 ∷ 0 ∷ 11 ∷ 6 ∷ 100 ∷
     2 ∷ 2 ∷ 0 ∷ 0 ∷ 0 ∷ 0 ∷ 0 ∷ 0 ∷ 0 ∷
     16 ∷ 1 ∷ 0 ∷ 0 ∷ 1 ∷ 0 ∷ 0 ∷ 0 ∷ 0 ∷
     2 ∷ 6 ∷ 0 ∷ 0 ∷ 0 ∷ 0 ∷ 0 ∷ 0 ∷ 0 ∷
@@ -326,9 +355,10 @@ cases-1 =
     16 ∷ 10 ∷ 0 ∷ 0 ∷ 7 ∷ 0 ∷ 0 ∷ 0 ∷ 0 ∷
     16 ∷ 9 ∷ 0 ∷ 0 ∷ 8 ∷ 0 ∷ 0 ∷ 0 ∷ 0 ∷
     16 ∷ 8 ∷ 0 ∷ 0 ∷ 9 ∷ 0 ∷ 0 ∷ 0 ∷ 0 ∷
-    30 ∷ 11 ∷ 0 ∷ 0 ∷ 10 ∷ 0 ∷ 0 ∷ 0 ∷ 0 ∷ []) ∷
-    case 1 1 "a or b and c == d != e > f >= g\n" 15 0 14
-    (0 ∷ 15 ∷ 0 ∷ 14 ∷ 14 ∷
+    30 ∷ 11 ∷ 0 ∷ 0 ∷ 10 ∷ 0 ∷ 0 ∷ 0 ∷ 0 ∷
+    1 ∷ 2 ∷ 4 ∷ 4 ∷ 5 ∷ 6 ∷ 8 ∷ 8 ∷ 9 ∷ 10 ∷ 11 ∷ 13 ∷ 13 ∷ []) ∷
+    case 1 1 "a or b and c == d != e > f >= g\n" 15 0 14 15
+    (0 ∷ 15 ∷ 0 ∷ 14 ∷ 14 ∷ 169 ∷
     2 ∷ 1 ∷ 0 ∷ 0 ∷ 0 ∷ 0 ∷ 0 ∷ 0 ∷ 0 ∷
     2 ∷ 3 ∷ 0 ∷ 0 ∷ 0 ∷ 0 ∷ 0 ∷ 0 ∷ 0 ∷
     2 ∷ 5 ∷ 0 ∷ 0 ∷ 0 ∷ 0 ∷ 0 ∷ 0 ∷ 0 ∷
@@ -342,9 +372,10 @@ cases-1 =
     7 ∷ 8 ∷ 0 ∷ 0 ∷ 5 ∷ 10 ∷ 0 ∷ 0 ∷ 0 ∷
     14 ∷ 4 ∷ 0 ∷ 0 ∷ 2 ∷ 11 ∷ 0 ∷ 0 ∷ 0 ∷
     14 ∷ 2 ∷ 0 ∷ 0 ∷ 1 ∷ 12 ∷ 0 ∷ 0 ∷ 0 ∷
-    30 ∷ 13 ∷ 0 ∷ 0 ∷ 13 ∷ 0 ∷ 0 ∷ 0 ∷ 0 ∷ []) ∷
-    case 1 1 "a < b <= c + d - e / f % g * h ^ i ^ -j\n" 22 0 21
-    (0 ∷ 22 ∷ 0 ∷ 21 ∷ 21 ∷
+    30 ∷ 13 ∷ 0 ∷ 0 ∷ 13 ∷ 0 ∷ 0 ∷ 0 ∷ 0 ∷
+    1 ∷ 2 ∷ 3 ∷ 4 ∷ 5 ∷ 6 ∷ 7 ∷ 8 ∷ 9 ∷ 10 ∷ 11 ∷ 12 ∷ 13 ∷ 15 ∷ 15 ∷ []) ∷
+    case 1 1 "a < b <= c + d - e / f % g * h ^ i ^ -j\n" 22 0 21 22
+    (0 ∷ 22 ∷ 0 ∷ 21 ∷ 21 ∷ 180 ∷
     2 ∷ 1 ∷ 0 ∷ 0 ∷ 0 ∷ 0 ∷ 0 ∷ 0 ∷ 0 ∷
     2 ∷ 3 ∷ 0 ∷ 0 ∷ 0 ∷ 0 ∷ 0 ∷ 0 ∷ 0 ∷
     7 ∷ 2 ∷ 0 ∷ 0 ∷ 1 ∷ 2 ∷ 0 ∷ 0 ∷ 0 ∷
@@ -365,17 +396,18 @@ cases-1 =
     7 ∷ 14 ∷ 0 ∷ 0 ∷ 11 ∷ 17 ∷ 0 ∷ 0 ∷ 0 ∷
     7 ∷ 8 ∷ 0 ∷ 0 ∷ 6 ∷ 18 ∷ 0 ∷ 0 ∷ 0 ∷
     7 ∷ 4 ∷ 0 ∷ 0 ∷ 3 ∷ 19 ∷ 0 ∷ 0 ∷ 0 ∷
-    30 ∷ 20 ∷ 0 ∷ 0 ∷ 20 ∷ 0 ∷ 0 ∷ 0 ∷ 0 ∷ []) ∷
+    30 ∷ 20 ∷ 0 ∷ 0 ∷ 20 ∷ 0 ∷ 0 ∷ 0 ∷ 0 ∷
+    1 ∷ 2 ∷ 3 ∷ 4 ∷ 5 ∷ 6 ∷ 7 ∷ 8 ∷ 9 ∷ 10 ∷ 11 ∷ 12 ∷ 13 ∷ 14 ∷ 15 ∷ 16 ∷ 17 ∷ 18 ∷ 19 ∷ 20 ∷ 22 ∷ 22 ∷ []) ∷
     []
 
 agree-1 : map answer cases-1 ≡ map expected cases-1
-unfolding reading lexedOf lexed isText keywordOf signOf div ofInt toBits put field linked zeroed kindAt startAt lineAt after skipFrom skipLines seenIf checkAt matchesAt pushNode pushError consumeAt requireAt run raised firstOf blockFrom block expressionStmt parametersFrom parameters functionBody fnStmt fnExpr methodsFrom class letStmt namesFrom enhancedFor classicFor forLoop tryCatch elifsFrom elseFrom ifStmt ret brk cont whileStmt statement declaration argumentsFrom arguments list dictElementsFrom dictionary closed access superExpr primary finishCall callFrom call unary lookMany binaryFrom binary assignment body lower topLevel statements parsed
+unfolding reading lexedOf lexed isText keywordOf signOf div ofInt toBits put field linked zeroed kindAt startAt lineAt after linesFrom skipLines seenIf checkAt matchesAt countedBy pushNode pushError consumeAt requireAt run raised firstOf blockFrom block expressionStmt parametersFrom parameters functionBody fnStmt fnExpr methodsFrom class letStmt namesFrom enhancedFor classicFor forLoop tryCatch elifsFrom elseFrom ifStmt ret brk cont whileStmt statement declaration argumentsFrom arguments list dictElementsFrom dictionary closed access superExpr primary finishCall callFrom call unary lookMany binaryFrom binary assignment body lower topLevel statements parsed lineWord lineWords lineIndex
 agree-1 = refl
 
 abbrev cases-2 : List Case
 cases-2 =
-    case 1 1 "a ^ b * c + d <= e != f and g or h\n" 17 0 16
-    (0 ∷ 17 ∷ 0 ∷ 16 ∷ 16 ∷
+    case 1 1 "a ^ b * c + d <= e != f and g or h\n" 17 0 16 17
+    (0 ∷ 17 ∷ 0 ∷ 16 ∷ 16 ∷ 174 ∷
     2 ∷ 1 ∷ 0 ∷ 0 ∷ 0 ∷ 0 ∷ 0 ∷ 0 ∷ 0 ∷
     2 ∷ 3 ∷ 0 ∷ 0 ∷ 0 ∷ 0 ∷ 0 ∷ 0 ∷ 0 ∷
     7 ∷ 2 ∷ 0 ∷ 0 ∷ 1 ∷ 2 ∷ 0 ∷ 0 ∷ 0 ∷
@@ -391,9 +423,10 @@ cases-2 =
     14 ∷ 12 ∷ 0 ∷ 0 ∷ 11 ∷ 12 ∷ 0 ∷ 0 ∷ 0 ∷
     2 ∷ 15 ∷ 0 ∷ 0 ∷ 0 ∷ 0 ∷ 0 ∷ 0 ∷ 0 ∷
     14 ∷ 14 ∷ 0 ∷ 0 ∷ 13 ∷ 14 ∷ 0 ∷ 0 ∷ 0 ∷
-    30 ∷ 15 ∷ 0 ∷ 0 ∷ 15 ∷ 0 ∷ 0 ∷ 0 ∷ 0 ∷ []) ∷
+    30 ∷ 15 ∷ 0 ∷ 0 ∷ 15 ∷ 0 ∷ 0 ∷ 0 ∷ 0 ∷
+    1 ∷ 2 ∷ 3 ∷ 4 ∷ 5 ∷ 6 ∷ 7 ∷ 8 ∷ 9 ∷ 10 ∷ 11 ∷ 12 ∷ 13 ∷ 14 ∷ 15 ∷ 17 ∷ 17 ∷ []) ∷
     []
 
 agree-2 : map answer cases-2 ≡ map expected cases-2
-unfolding reading lexedOf lexed isText keywordOf signOf div ofInt toBits put field linked zeroed kindAt startAt lineAt after skipFrom skipLines seenIf checkAt matchesAt pushNode pushError consumeAt requireAt run raised firstOf blockFrom block expressionStmt parametersFrom parameters functionBody fnStmt fnExpr methodsFrom class letStmt namesFrom enhancedFor classicFor forLoop tryCatch elifsFrom elseFrom ifStmt ret brk cont whileStmt statement declaration argumentsFrom arguments list dictElementsFrom dictionary closed access superExpr primary finishCall callFrom call unary lookMany binaryFrom binary assignment body lower topLevel statements parsed
+unfolding reading lexedOf lexed isText keywordOf signOf div ofInt toBits put field linked zeroed kindAt startAt lineAt after linesFrom skipLines seenIf checkAt matchesAt countedBy pushNode pushError consumeAt requireAt run raised firstOf blockFrom block expressionStmt parametersFrom parameters functionBody fnStmt fnExpr methodsFrom class letStmt namesFrom enhancedFor classicFor forLoop tryCatch elifsFrom elseFrom ifStmt ret brk cont whileStmt statement declaration argumentsFrom arguments list dictElementsFrom dictionary closed access superExpr primary finishCall callFrom call unary lookMany binaryFrom binary assignment body lower topLevel statements parsed lineWord lineWords lineIndex
 agree-2 = refl

@@ -1,5 +1,6 @@
 // `parse`: the top-level statements, what is kept, and the answer.
 ghost use mathlib.Core.Path.{_≡_};
+ghost use Rattle.parser.specs.Tokens.{indexed};
 ghost use Rattle.parser.specs.Tables.{reply};
 ghost use Rattle.parser.specs.Whole.{topLevel, parsed, Parsing};
 use parser::Got;
@@ -8,15 +9,16 @@ use parser::Parsed;
 use parser::State;
 use token::Token;
 
-// `parse`: the top-level statements, by a rule; each is finished after its newline test.
+// `parse`: the top-level statements, by a rule, newlines passed by the index that is lent; each is finished after its newline test.
 pub fn parse(
     rule: u32,
     tokens: &[u32],
     errors: &mut [u32],
     nodes: &mut [u32],
+    index: &[u32],
     recorded: u32,
 ) -> Parsed
-    ensures { λ r. ⌜ Parsing (parsed rule (now (tokens .entry)) recorded (now (errors .entry)) (now (nodes .entry))) r (now (errors .exit)) (now (nodes .exit)) ⌝ }
+    ensures { λ r. ⌜ Parsing (parsed rule (indexed (now (tokens .entry)) (now (index .entry))) recorded (now (errors .entry)) (now (nodes .entry))) r (now (errors .exit)) (now (nodes .exit)) ⌝ }
 {
     let mut s = State::fresh(rule, recorded);
     let mut first = 0;
@@ -30,9 +32,10 @@ pub fn parse(
                 errors: s.errors,
                 nodes: kept,
                 first,
+                looks: s.looks,
             };
         }
-        let g = top_level(tokens, errors, nodes, s);
+        let g = top_level(tokens, errors, nodes, index, s);
         let k = g.got;
         let u = g.p;
         match k {
@@ -43,6 +46,7 @@ pub fn parse(
                     errors: u.errors,
                     nodes: kept,
                     first,
+                    looks: u.looks,
                 };
             }
             Got::Node(n) => {
@@ -56,16 +60,22 @@ pub fn parse(
 }
 
 // A top-level statement and its newline test: what `parse` does at each turn, and a read of one statement once.
-pub fn top_level(tokens: &[u32], errors: &mut [u32], nodes: &mut [u32], p: State) -> Out
-    ensures { λ r. ⌜ reply (r .p) (r .got) (now (errors .exit)) (now (nodes .exit)) ≡ topLevel (now (tokens .entry)) p (now (errors .entry)) (now (nodes .entry)) ⌝ }
+pub fn top_level(
+    tokens: &[u32],
+    errors: &mut [u32],
+    nodes: &mut [u32],
+    index: &[u32],
+    p: State,
+) -> Out
+    ensures { λ r. ⌜ reply (r .p) (r .got) (now (errors .exit)) (now (nodes .exit)) ≡ topLevel (indexed (now (tokens .entry)) (now (index .entry))) p (now (errors .entry)) (now (nodes .entry)) ⌝ }
 {
-    let g = grammar::declaration(tokens, errors, nodes, p, 128);
+    let g = grammar::declaration(tokens, errors, nodes, index, p, 128);
     let k = g.got;
     let Got::Node(_) = k else {
         return g;
     };
     let q = g.p;
-    let h = parser::consume(tokens, errors, q, Token::NEWLINE, 4);
+    let h = parser::consume(tokens, errors, index, q, Token::NEWLINE, 4);
     let m = h.got;
     let Got::Node(_) = m else {
         return h;

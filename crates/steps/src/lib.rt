@@ -28,6 +28,7 @@ fn leave(p: Parser) -> Stepped
             errors: p.errors,
             nodes: p.nodes,
             first: p.first,
+            looks: p.looks,
         },
     }
 }
@@ -44,13 +45,14 @@ fn refuse(p: Parser, outcome: u32) -> Stepped
             errors: 0,
             nodes: 0,
             first: 0,
+            looks: 0,
         },
     }
 }
 
 // The final answer.
 fn finish(nodes: &mut [u32], p: Parser, outcome: u32) -> Stepped
-    ensures { λ r. ⌜ ((T E : List ℕ) → left r T E (now (nodes .exit)) ≡ final outcome p T E (now (nodes .entry))) ⌝ }
+    ensures { λ r. ⌜ ((T E X : List ℕ) → left r T E (now (nodes .exit)) X ≡ final outcome p T E (now (nodes .entry)) X) ⌝ }
 {
     let kept = p.nodes;
     records::zero_rest(nodes, kept);
@@ -60,7 +62,7 @@ fn finish(nodes: &mut [u32], p: Parser, outcome: u32) -> Stepped
 
 // A token before EOF is left to be read, or the reading is at its end.
 fn rest(tokens: &[u32], nodes: &mut [u32], p: Parser) -> Stepped
-    ensures { λ r. ⌜ ((E : List ℕ) → left r (now (tokens .entry)) E (now (nodes .exit)) ≡ restOf (now (tokens .entry)) p E (now (nodes .entry))) ⌝ }
+    ensures { λ r. ⌜ ((E X : List ℕ) → left r (now (tokens .entry)) E (now (nodes .exit)) X ≡ restOf (now (tokens .entry)) p E (now (nodes .entry)) X) ⌝ }
 {
     let at = p.current;
     if parser::kind_at(tokens, at) == Token::EOF {
@@ -71,8 +73,8 @@ fn rest(tokens: &[u32], nodes: &mut [u32], p: Parser) -> Stepped
 }
 
 // One top-level statement, by the reader that `parse` uses too.
-fn one(tokens: &[u32], errors: &mut [u32], nodes: &mut [u32], p: Parser) -> Stepped
-    ensures { λ r. ⌜ left r (now (tokens .entry)) (now (errors .exit)) (now (nodes .exit)) ≡ oneOf (now (tokens .entry)) p (now (errors .entry)) (now (nodes .entry)) ⌝ }
+fn one(tokens: &[u32], errors: &mut [u32], nodes: &mut [u32], index: &[u32], p: Parser) -> Stepped
+    ensures { λ r. ⌜ left r (now (tokens .entry)) (now (errors .exit)) (now (nodes .exit)) (now (index .entry)) ≡ oneOf (now (tokens .entry)) p (now (errors .entry)) (now (nodes .entry)) (now (index .entry)) ⌝ }
 {
     let at = p.current;
     if parser::kind_at(tokens, at) == Token::EOF {
@@ -84,13 +86,14 @@ fn one(tokens: &[u32], errors: &mut [u32], nodes: &mut [u32], p: Parser) -> Step
         errors: p.errors,
         nodes: p.nodes,
         loops: p.loops,
+        looks: p.looks,
     };
-    let g = statements::top_level(tokens, errors, nodes, s);
+    let g = statements::top_level(tokens, errors, nodes, index, s);
     let k = g.got;
     let u = g.p;
     match k {
         Got::Stop(o) => {
-            let q = p.stopped(u.errors);
+            let q = p.stopped(u);
             finish(nodes, q, o)
         }
         Got::Node(n) => {
@@ -108,17 +111,19 @@ pub fn start(
     tokens: &mut [u32],
     errors: &mut [u32],
     nodes: &mut [u32],
+    index: &mut [u32],
     p: Parser,
 ) -> Stepped
-    ensures { λ r. ⌜ (r ≡ begun (now (source .entry)) (now (tokens .entry)) (now (errors .entry)) (now (nodes .entry)) p .stepped)
-        × (now (tokens .exit) ≡ begun (now (source .entry)) (now (tokens .entry)) (now (errors .entry)) (now (nodes .entry)) p .tokens)
-        × (now (errors .exit) ≡ begun (now (source .entry)) (now (tokens .entry)) (now (errors .entry)) (now (nodes .entry)) p .errors)
-        × (now (nodes .exit) ≡ begun (now (source .entry)) (now (tokens .entry)) (now (errors .entry)) (now (nodes .entry)) p .nodes) ⌝ }
+    ensures { λ r. ⌜ (r ≡ begun (now (source .entry)) (now (tokens .entry)) (now (errors .entry)) (now (nodes .entry)) (now (index .entry)) p .stepped)
+        × (now (tokens .exit) ≡ begun (now (source .entry)) (now (tokens .entry)) (now (errors .entry)) (now (nodes .entry)) (now (index .entry)) p .tokens)
+        × (now (errors .exit) ≡ begun (now (source .entry)) (now (tokens .entry)) (now (errors .entry)) (now (nodes .entry)) (now (index .entry)) p .errors)
+        × (now (nodes .exit) ≡ begun (now (source .entry)) (now (tokens .entry)) (now (errors .entry)) (now (nodes .entry)) (now (index .entry)) p .nodes)
+        × (now (index .exit) ≡ begun (now (source .entry)) (now (tokens .entry)) (now (errors .entry)) (now (nodes .entry)) (now (index .entry)) p .index) ⌝ }
 {
     if !rules::is_known(p.rule) {
         return refuse(p, Outcome::WRONG_RULE);
     }
-    let d = entry::enter(p.rule, p.way, source, tokens, errors, nodes);
+    let d = entry::enter(p.rule, p.way, source, tokens, errors, nodes, index);
     let q = p.fresh(d.tokens, d.errors);
     if d.outcome == Outcome::ENDED {
         return rest(tokens, nodes, q);
@@ -133,17 +138,19 @@ pub fn step(
     tokens: &mut [u32],
     errors: &mut [u32],
     nodes: &mut [u32],
+    index: &mut [u32],
     p: Parser,
 ) -> Stepped
-    ensures { λ r. ⌜ (r ≡ nextOf (now (tokens .entry)) (now (errors .entry)) (now (nodes .entry)) p .stepped)
-        × (now (tokens .exit) ≡ nextOf (now (tokens .entry)) (now (errors .entry)) (now (nodes .entry)) p .tokens)
-        × (now (errors .exit) ≡ nextOf (now (tokens .entry)) (now (errors .entry)) (now (nodes .entry)) p .errors)
-        × (now (nodes .exit) ≡ nextOf (now (tokens .entry)) (now (errors .entry)) (now (nodes .entry)) p .nodes) ⌝ }
+    ensures { λ r. ⌜ (r ≡ nextOf (now (tokens .entry)) (now (errors .entry)) (now (nodes .entry)) (now (index .entry)) p .stepped)
+        × (now (tokens .exit) ≡ nextOf (now (tokens .entry)) (now (errors .entry)) (now (nodes .entry)) (now (index .entry)) p .tokens)
+        × (now (errors .exit) ≡ nextOf (now (tokens .entry)) (now (errors .entry)) (now (nodes .entry)) (now (index .entry)) p .errors)
+        × (now (nodes .exit) ≡ nextOf (now (tokens .entry)) (now (errors .entry)) (now (nodes .entry)) (now (index .entry)) p .nodes)
+        × (now (index .exit) ≡ nextOf (now (tokens .entry)) (now (errors .entry)) (now (nodes .entry)) (now (index .entry)) p .index) ⌝ }
 {
     if p.is_open() {
-        if host::fits(tokens, errors, nodes, p) {
+        if host::fits(tokens, errors, nodes, index, p) {
             if rules::is_known(p.rule) {
-                return one(tokens, errors, nodes, p);
+                return one(tokens, errors, nodes, index, p);
             }
             return refuse(p, Outcome::WRONG_RULE);
         }

@@ -6,15 +6,15 @@ use mathlib.Core.Logic.{_⊎_, inl, inr}
 use Prim.Native.Nat.{ℕ, zero, suc, _+_, _-_, _*_, _≤_, _<_}
 use native.Mathlib.Omega.{arith}
 use lib.Dec.{eqb}
-use borrow.Author.Tests.{eqb-true, eqb-false}
+use borrow.Author.Tests.{eqb-true}
 use lib.ListN.{length, getD, set, length-set}
 use lib.Seq.{getD-set-same, getD-set-other}
-use Rattle.records.specs.Table.{room, put, field, linked, tokenWidth, nodeWidth}
+use Rattle.records.specs.Table.{room, put, field, linked, nodeWidth}
 use Rattle.records.specs.Words.{nodeWords}
 use Rattle.records.specs.declared.Node as rows
 use Rattle.records.proofs.Room.{lt-or-le, room-fits, room-length}
 use Rattle.records.proofs.Put.{put-length}
-use Rattle.records.proofs.Field.{field-put, field-other, field-room, field-none, field-same}
+use Rattle.records.proofs.Field.{field-put, field-other, field-room, field-same}
 use Rattle.records.proofs.Rest.{linked-room, linked-none, linked-length}
 use Rattle.parser.specs.declared.State.{State}
 use Rattle.parser.specs.declared.Form.{Form}
@@ -23,10 +23,11 @@ use Rattle.parser.specs.declared.Found.{Found}
 use Rattle.parser.specs.declared.Got.the-variants.{Node, Stop}
 use Rattle.parser.specs.declared.Seen.{Seen}
 use Rattle.parser.specs.declared.Seen.the-variants.{At, Nothing}
-use Rattle.parser.specs.Tokens.{count, kindAt, after, skipFrom, skipLines, seenIf, checkAt, matchesAt}
-use Rattle.parser.specs.Tables.{Reply, reply, moved, looped, plain, pushNode, pushError, ifSeen, andThen, consumeAt, requireAt}
+use Rattle.parser.specs.Tokens.{View, count, kindAt, after, skipLines, seenIf, checkAt, matchesAt}
+use Rattle.parser.specs.Tables.{Reply, reply, looped, plain, pushNode, pushError, ifSeen, andThen, consumeAt, requireAt}
 use Rattle.parser.specs.Programs.{Reader, Which, Declaration, Assignment, Operand, Prog, give, stop, _>>=_, _>>_, look, check, atEnd, previous, node, link, fail, failAt, consume, require, enterLoop, leaveLoop, giveBack, insideLoop, inFunction, down, either, restored, run}
 use Rattle.parser.specs.Grammar.{body, lower}
+use Rattle.parser.proofs.Look.{kind-inside, after-in}
 use Rattle.parser.proofs.Push.{push-node, push-error}
 use Rattle.trees.specs.Trees.{Sort, Expression, Statement, Index, tightOf, Child, Formed, Forest}
 use Rattle.trees.proofs.TreeRows.{Agree, formed-keep, Later, Made, Linked, Behind, forest-join, forest-none, forest-made, forest-link}
@@ -59,61 +60,48 @@ link-linked N u prev n r h = go (lt-or-le 0 prev)
     })
     go (inr p) = let z : prev ≡ 0 = omega arith in rw (linked-none N prev n (inl z)) (record { others = λ i k w c. refl; words = λ i k c. refl; put = λ q. absurd (omega arith) })
 
--- ---- the cursor stays within the table, and the token found is of the kind
+-- ---- the token found is of the kind, so it is one of the table's: no reader asks for EOF
 abbrev Spotted : List ℕ → ℕ → Seen → Type 0
-Spotted T kind (At i) = (i ≤ count T) × (kindAt T i ≡ kind)
+Spotted T kind (At i) = kindAt T i ≡ kind
 Spotted T kind Nothing = Unit {0}
 
 -- reference i names a token of the kind
 pub record Token (T : List ℕ) (kind i : ℕ) : Type 0 where
   pub within : i ≤ count T
-  pub seen : 1 ≤ kind → kindAt T (i - 1) ≡ kind
+  pub seen : kindAt T (i - 1) ≡ kind
 
 abbrev Passed : List ℕ → ℕ → Seen → Type 0
 Passed T kind (At i) = Token T kind i
 Passed T kind Nothing = Unit {0}
 
-skip-le : (T : List ℕ) (c n i : ℕ) → i + n ≤ c → skipFrom n T i ≤ c
-unfolding skipFrom
-skip-le T c zero i h = omega arith
-skip-le T c (suc n) i h = go (eqb (kindAt T i) 1) (skip-le T c n (i + 1) (omega arith))
-  where
-    go : (b : Bool) → skipFrom n T (i + 1) ≤ c → elim b [ true ↦ skipFrom n T (i + 1) | false ↦ i ] ≤ c
-    go true x = x
-    go false x = omega arith
-
-seen-le : (T : List ℕ) (kind i : ℕ) (b : Bool) → i ≤ count T → eqb (kindAt T i) kind ≡ b → Spotted T kind (seenIf b i)
+seen-kind : (T : List ℕ) (kind i : ℕ) (b : Bool) → eqb (kindAt T i) kind ≡ b → Spotted T kind (seenIf b i)
 unfolding seenIf
-seen-le T kind i true h e = (h, eqb-true _ _ e)
-seen-le T kind i false h e = tt
+seen-kind T kind i true e = eqb-true _ _ e
+seen-kind T kind i false e = tt
 
-check-le : (T : List ℕ) (i kind : ℕ) → i ≤ count T → Spotted T kind (checkAt T i kind)
-unfolding checkAt skipLines
-check-le T i kind h = go (eqb kind 1) refl
+check-kind : (U : View) (i kind : ℕ) → Spotted (U .tokens) kind (checkAt U i kind)
+unfolding checkAt
+check-kind U i kind = go (eqb kind 1) refl
   where
-    go : (b : Bool) → eqb kind 1 ≡ b → Spotted T kind (elim b [ true ↦ seenIf (eqb (kindAt T i) 1) i | false ↦ seenIf (eqb (kindAt T (skipFrom (count T - i) T i)) kind) (skipFrom (count T - i) T i) ])
-    go true e = let f = eqb-true kind 1 e in rw f (seen-le T 1 i (eqb (kindAt T i) 1) h refl)
-    go false e = seen-le T kind (skipFrom (count T - i) T i) (eqb (kindAt T (skipFrom (count T - i) T i)) kind) (skip-le T (count T) (count T - i) i (omega arith)) refl
+    T : List ℕ
+    T = U .tokens
 
-past-end : (T : List ℕ) (i : ℕ) → count T ≤ i → kindAt T i ≡ 0
-unfolding kindAt
-past-end T i g = field-none tokenWidth 0 T i g
+    go : (b : Bool) → eqb kind 1 ≡ b → Spotted T kind (elim b [ true ↦ seenIf (eqb (kindAt T i) 1) i | false ↦ seenIf (eqb (kindAt T (skipLines U i)) kind) (skipLines U i) ])
+    go true e = let f = eqb-true kind 1 e in rw f (seen-kind T 1 i (eqb (kindAt T i) 1) refl)
+    go false e = seen-kind T kind (skipLines U i) (eqb (kindAt T (skipLines U i)) kind) refl
 
-after-le : (T : List ℕ) (kind i : ℕ) → i ≤ count T → kindAt T i ≡ kind → Token T kind (after T i)
-unfolding after
-after-le T kind i h k = go (eqb (kindAt T i) 0) refl (lt-or-le i (count T))
-  where
-    go : (b : Bool) → eqb (kindAt T i) 0 ≡ b → (i < count T) ⊎ (count T ≤ i) → Token T kind (elim b [ true ↦ i | false ↦ i + 1 ])
-    go true e o = let z = eqb-true (kindAt T i) 0 e in record { within = h; seen = λ q. absurd (omega arith) }
-    go false e (inl o) = let y : i + 1 - 1 ≡ i = omega arith in record { within = omega arith; seen = λ q. rw y k }
-    go false e (inr o) = let x = eqb-false (kindAt T i) 0 e in absurd (x (past-end T i o))
+after-kind : (T : List ℕ) (k i : ℕ) → kindAt T i ≡ suc k → Token T (suc k) (after T i)
+after-kind T k i e =
+    let h = kind-inside T i k e in
+    let y : i + 1 - 1 ≡ i = omega arith in
+    rw (← after-in T i λ z. omega (arith, e, z)) (record { within = omega (arith, h); seen = rw y e })
 
-matches-le : (T : List ℕ) (i kind : ℕ) → i ≤ count T → Passed T kind (matchesAt T i kind)
+matches-kind : (U : View) (i k : ℕ) → Passed (U .tokens) (suc k) (matchesAt U i (suc k))
 unfolding matchesAt
-matches-le T i kind h = go (checkAt T i kind) (check-le T i kind h)
+matches-kind U i k = go (checkAt U i (suc k)) (check-kind U i (suc k))
   where
-    go : (s : Seen) → Spotted T kind s → Passed T kind (elim s [ At j ↦ At (after T j) | Nothing ↦ Nothing ])
-    go (At j) x = after-le T kind j (x .0) (x .1)
+    go : (s : Seen) → Spotted (U .tokens) (suc k) s → Passed (U .tokens) (suc k) (elim s [ At j ↦ At (after (U .tokens) j) | Nothing ↦ Nothing ])
+    go (At j) x = after-kind (U .tokens) k j x
     go Nothing x = tt
 
 -- ---- what is found
@@ -149,16 +137,20 @@ module _ (T : List ℕ) where
   Wp b (stop o) R u N = Unit {0}
   Wp b (m >>= k) R u N = Wp b m (λ f v M. Wp b (k f) R v M) u N
   Wp b (m >> k) R u N = Wp b m (λ f v M. Wp b k R v M) u N
-  Wp b (look kind found missing) R u N = ((i : ℕ) → Token T kind i → Wp b (found i) R u N) × Wp b missing R u N
-  Wp b (check kind found missing) R u N = Wp b found R u N × Wp b missing R u N
+  Wp b (look zero found missing) R u N = ⊥
+  Wp b (look (suc k) found missing) R u N = ((i : ℕ) → Token T (suc k) i → Wp b (found i) R u N) × Wp b missing R u N
+  Wp b (check zero found missing) R u N = ⊥
+  Wp b (check (suc k) found missing) R u N = Wp b found R u N × Wp b missing R u N
   Wp b (atEnd found missing) R u N = Wp b found R u N × Wp b missing R u N
   Wp b previous R u N = (t : ℕ) → t ≤ count T → R (plain t) u N
   Wp b (node d) R u N = Formed T N b u d × (d .next ≡ 0) × ((M : List ℕ) → Made u N d M → R (plain (u + 1)) (u + 1) M)
   Wp b (link prev n) R u N = ((prev ≡ 0) ⊎ Behind T b u N prev n) × ((M : List ℕ) → Linked N prev n M → R (plain 0) u M)
   Wp b (fail message) R u N = R (plain 0) u N
   Wp b (failAt message token) R u N = R (plain 0) u N
-  Wp b (consume kind message) R u N = (t : ℕ) → t ≤ count T → R (plain t) u N
-  Wp b (require kind message) R u N = (t : ℕ) → t ≤ count T → R (plain t) u N
+  Wp b (consume zero message) R u N = ⊥
+  Wp b (consume (suc k) message) R u N = (t : ℕ) → t ≤ count T → R (plain t) u N
+  Wp b (require zero message) R u N = ⊥
+  Wp b (require (suc k) message) R u N = (t : ℕ) → t ≤ count T → R (plain t) u N
   Wp b enterLoop R u N = R (plain 0) u N
   Wp b leaveLoop R u N = R (plain 0) u N
   Wp b giveBack R u N = R (plain 0) u N
@@ -183,8 +175,10 @@ module _ (T : List ℕ) where
   weaken b d N₀ h (stop e) R′ R u N p a x w o = tt
   weaken b d N₀ h (m >>= k) R′ R u N p a x w o = weaken b d N₀ h m (λ f v M. Wp d (k f) R′ v M) (λ f v M. Wp b (k f) R v M) u N p a x w (λ f v M p a x w. weaken b d N₀ h (k f) R′ R v M p a x w o)
   weaken b d N₀ h (m >> k) R′ R u N p a x w o = weaken b d N₀ h m (λ f v M. Wp d k R′ v M) (λ f v M. Wp b k R v M) u N p a x w (λ f v M p a x w. weaken b d N₀ h k R′ R v M p a x w o)
-  weaken b d N₀ h (look kind found missing) R′ R u N p a x w o = (λ i t. weaken b d N₀ h (found i) R′ R u N p a x (w .0 i t) o, weaken b d N₀ h missing R′ R u N p a x (w .1) o)
-  weaken b d N₀ h (check kind found missing) R′ R u N p a x w o = (weaken b d N₀ h found R′ R u N p a x (w .0) o, weaken b d N₀ h missing R′ R u N p a x (w .1) o)
+  weaken b d N₀ h (look zero found missing) R′ R u N p a x w o = absurd w
+  weaken b d N₀ h (look (suc e) found missing) R′ R u N p a x w o = (λ i t. weaken b d N₀ h (found i) R′ R u N p a x (w .0 i t) o, weaken b d N₀ h missing R′ R u N p a x (w .1) o)
+  weaken b d N₀ h (check zero found missing) R′ R u N p a x w o = absurd w
+  weaken b d N₀ h (check (suc e) found missing) R′ R u N p a x w o = (weaken b d N₀ h found R′ R u N p a x (w .0) o, weaken b d N₀ h missing R′ R u N p a x (w .1) o)
   weaken b d N₀ h (atEnd found missing) R′ R u N p a x w o = (weaken b d N₀ h found R′ R u N p a x (w .0) o, weaken b d N₀ h missing R′ R u N p a x (w .1) o)
   weaken b d N₀ h previous R′ R u N p a x w o = λ t l. o (plain t) u N p a x (w t l)
   weaken b d N₀ h (node r) R′ R u N p a x w o = (
@@ -198,8 +192,10 @@ module _ (T : List ℕ) where
   )
   weaken b d N₀ h (fail message) R′ R u N p a x w o = o (plain 0) u N p a x w
   weaken b d N₀ h (failAt message token) R′ R u N p a x w o = o (plain 0) u N p a x w
-  weaken b d N₀ h (consume kind message) R′ R u N p a x w o = λ t l. o (plain t) u N p a x (w t l)
-  weaken b d N₀ h (require kind message) R′ R u N p a x w o = λ t l. o (plain t) u N p a x (w t l)
+  weaken b d N₀ h (consume zero message) R′ R u N p a x w o = absurd w
+  weaken b d N₀ h (consume (suc e) message) R′ R u N p a x w o = λ t l. o (plain t) u N p a x (w t l)
+  weaken b d N₀ h (require zero message) R′ R u N p a x w o = absurd w
+  weaken b d N₀ h (require (suc e) message) R′ R u N p a x w o = λ t l. o (plain t) u N p a x (w t l)
   weaken b d N₀ h enterLoop R′ R u N p a x w o = o (plain 0) u N p a x w
   weaken b d N₀ h leaveLoop R′ R u N p a x w o = o (plain 0) u N p a x w
   weaken b d N₀ h giveBack R′ R u N p a x w o = o (plain 0) u N p a x w
@@ -247,9 +243,9 @@ module _ (T : List ℕ) where
   done-passed b R N kind (At i) f g t h e = h i t
   done-passed b R N kind Nothing f g t h e = e
 
-  done-spotted : (b : ℕ) (R : Found → ℕ → List ℕ → Type 0) (N : List ℕ) (kind : ℕ) (s : Seen) (f : ℕ → Reply) (g : Unit {0} → Reply) → Spotted T kind s → ((i : ℕ) → i ≤ count T → Done b R N (f i)) → Done b R N (g tt) → Done b R N (ifSeen s f g)
-  done-spotted b R N kind (At i) f g t h e = h i (t .0)
-  done-spotted b R N kind Nothing f g t h e = e
+  done-spotted : (b : ℕ) (R : Found → ℕ → List ℕ → Type 0) (N : List ℕ) (k : ℕ) (s : Seen) (f : ℕ → Reply) (g : Unit {0} → Reply) → Spotted T (suc k) s → ((i : ℕ) → i ≤ count T → Done b R N (f i)) → Done b R N (g tt) → Done b R N (ifSeen s f g)
+  done-spotted b R N k (At i) f g t h e = let l = kind-inside T i k t in h i (omega arith)
+  done-spotted b R N k Nothing f g t h e = e
 
   done-either : (b : ℕ) (R : Found → ℕ → List ℕ → Type 0) (N : List ℕ) (t : Bool) (f g : Unit {0} → Reply) → Done b R N (f tt) → Done b R N (g tt) → Done b R N (either t f g)
   done-either b R N true f g x y = x
@@ -307,31 +303,36 @@ module _ (T : List ℕ) where
       below (inl z) = omega arith
       below (inr y) = let a = y .below in let m = y .made in omega arith
 
-  module _ (low : Which → Reader) (h : (w : Which) → Reads (sortOf w) (tightFrom w) (low w)) where
-    pub sound : (Q : Prog) (p : State) (E N : List ℕ) (b : ℕ) (R : Found → ℕ → List ℕ → Type 0) → Stands b (p .nodes) (p .current) N → Wp b Q R (p .nodes) N → Done b R N (run T low Q p E N)
-    unfolding run consumeAt requireAt
-    sound (give f) p E N b R st w = record { done = (kept-all b N, st, w) }
-    sound (stop o) p E N b R st w = record { done = kept-all b N }
-    sound (m >>= k) p E N b R st w = done-then b (λ f v M. Wp b (k f) R v M) R N (run T low m p E N) (λ f q E M. run T low (k f) q E M) (sound m p E N b (λ f v M. Wp b (k f) R v M) st w) (λ f q E M st w. sound (k f) q E M b R st w)
-    sound (m >> k) p E N b R st w = done-then b (λ f v M. Wp b k R v M) R N (run T low m p E N) (λ f q E M. run T low k q E M) (sound m p E N b (λ f v M. Wp b k R v M) st w) (λ f q E M st w. sound k q E M b R st w)
-    sound (look kind found missing) p E N b R st w = done-passed b R N kind (matchesAt T (p .current) kind) _ _ (matches-le T (p .current) kind (st .cursor)) (λ i t. sound (found i) (moved p i) E N b R (state-moved i (t .within) st) (w .0 i t)) (sound missing p E N b R st (w .1))
-    sound (check kind found missing) p E N b R st w = done-spotted b R N kind (checkAt T (p .current) kind) _ _ (check-le T (p .current) kind (st .cursor)) (λ i t. sound found (moved p i) E N b R (state-moved i t st) (w .0)) (sound missing p E N b R st (w .1))
-    sound (atEnd found missing) p E N b R st w = done-either b R N (eqb (kindAt T (p .current)) 0) _ _ (sound found p E N b R st (w .0)) (sound missing p E N b R st (w .1))
-    sound previous p E N b R st w = record { done = (kept-all b N, st, w (p .current) (st .cursor)) }
-    sound (node d) p E N b R st w = done-push b R d p E N st w
-    sound (link prev n) p E N b R st w = done-link b R prev n p E N st w
-    sound (fail message) p E N b R st w = done-error b R message (p .current) p E N st w
-    sound (failAt message token) p E N b R st w = done-error b R message (token - 1) p E N st w
-    sound (consume kind message) p E N b R st w = done-passed b R N kind (matchesAt T (p .current) kind) _ _ (matches-le T (p .current) kind (st .cursor)) (λ i t. record { done = (kept-all b N, state-moved i (t .within) st, w i (t .within)) }) (done-error b R message (p .current) p E N st (w 0 (omega arith)))
-    sound (require kind message) p E N b R st w = done-passed b R N kind (matchesAt T (p .current) kind) _ _ (matches-le T (p .current) kind (st .cursor)) (λ i t. record { done = (kept-all b N, state-moved i (t .within) st, w i (t .within)) }) (done-then b (λ f v M. Unit {0}) R N (pushError T message (p .current) p E N) _ (done-error b (λ f v M. Unit {0}) message (p .current) p E N st tt) (λ f q E M st w. record { done = kept-all b M }))
-    sound enterLoop p E N b R st w = record { done = (kept-all b N, st, w) }
-    sound leaveLoop p E N b R st w = record { done = (kept-all b N, st, w) }
-    sound giveBack p E N b R st w = record { done = (kept-all b N, st, w) }
-    sound (insideLoop found missing) p E N b R st w = done-either b R N (eqb (p .loops) 0) _ _ (sound missing p E N b R st (w .1)) (sound found p E N b R st (w .0))
-    sound (inFunction name m) p E N b R st w = done-restored b R N p (run T low m (looped p 0) E N) (sound m (looped p 0) E N b R st w)
-    sound (down k) p E N b R st w = done-down b (sortOf k) (tightFrom k) R (p .nodes) (p .current) N (low k p E N) st (h k p E N (st .fits) (st .cursor)) w
+-- over any view: however it passes newlines
+module _ (U : View) (low : Which → Reader) (h : (w : Which) → Reads (U .tokens) (sortOf w) (tightFrom w) (low w)) where
+  pub sound : (Q : Prog) (p : State) (E N : List ℕ) (b : ℕ) (R : Found → ℕ → List ℕ → Type 0) → Stands (U .tokens) b (p .nodes) (p .current) N → Wp (U .tokens) b Q R (p .nodes) N → Done (U .tokens) b R N (run U low Q p E N)
+  unfolding run consumeAt requireAt
+  sound (give f) p E N b R st w = record { done = (kept-all (U .tokens) b N, st, w) }
+  sound (stop o) p E N b R st w = record { done = kept-all (U .tokens) b N }
+  sound (m >>= k) p E N b R st w = done-then (U .tokens) b (λ f v M. Wp (U .tokens) b (k f) R v M) R N (run U low m p E N) (λ f q E M. run U low (k f) q E M) (sound m p E N b (λ f v M. Wp (U .tokens) b (k f) R v M) st w) (λ f q E M st w. sound (k f) q E M b R st w)
+  sound (m >> k) p E N b R st w = done-then (U .tokens) b (λ f v M. Wp (U .tokens) b k R v M) R N (run U low m p E N) (λ f q E M. run U low k q E M) (sound m p E N b (λ f v M. Wp (U .tokens) b k R v M) st w) (λ f q E M st w. sound k q E M b R st w)
+  sound (look zero found missing) p E N b R st w = absurd w
+  sound (look (suc k) found missing) p E N b R st w = done-passed (U .tokens) b R N (suc k) (matchesAt U (p .current) (suc k)) _ _ (matches-kind U (p .current) k) (λ i t. sound (found i) _ E N b R (state-moved (U .tokens) i (t .within) st) (w .0 i t)) (sound missing _ E N b R st (w .1))
+  sound (check zero found missing) p E N b R st w = absurd w
+  sound (check (suc k) found missing) p E N b R st w = done-spotted (U .tokens) b R N k (checkAt U (p .current) (suc k)) _ _ (check-kind U (p .current) (suc k)) (λ i t. sound found _ E N b R (state-moved (U .tokens) i t st) (w .0)) (sound missing _ E N b R st (w .1))
+  sound (atEnd found missing) p E N b R st w = done-either (U .tokens) b R N (eqb (kindAt (U .tokens) (p .current)) 0) _ _ (sound found p E N b R st (w .0)) (sound missing p E N b R st (w .1))
+  sound previous p E N b R st w = record { done = (kept-all (U .tokens) b N, st, w (p .current) (st .cursor)) }
+  sound (node d) p E N b R st w = done-push (U .tokens) b R d p E N st w
+  sound (link prev n) p E N b R st w = done-link (U .tokens) b R prev n p E N st w
+  sound (fail message) p E N b R st w = done-error (U .tokens) b R message (p .current) p E N st w
+  sound (failAt message token) p E N b R st w = done-error (U .tokens) b R message (token - 1) p E N st w
+  sound (consume zero message) p E N b R st w = absurd w
+  sound (consume (suc k) message) p E N b R st w = done-passed (U .tokens) b R N (suc k) (matchesAt U (p .current) (suc k)) _ _ (matches-kind U (p .current) k) (λ i t. record { done = (kept-all (U .tokens) b N, state-moved (U .tokens) i (t .within) st, w i (t .within)) }) (done-error (U .tokens) b R message (p .current) _ E N st (w 0 (omega arith)))
+  sound (require zero message) p E N b R st w = absurd w
+  sound (require (suc k) message) p E N b R st w = done-passed (U .tokens) b R N (suc k) (matchesAt U (p .current) (suc k)) _ _ (matches-kind U (p .current) k) (λ i t. record { done = (kept-all (U .tokens) b N, state-moved (U .tokens) i (t .within) st, w i (t .within)) }) (done-then (U .tokens) b (λ f v M. Unit {0}) R N _ _ (done-error (U .tokens) b (λ f v M. Unit {0}) message (p .current) _ E N st tt) (λ f q E M st w. record { done = kept-all (U .tokens) b M }))
+  sound enterLoop p E N b R st w = record { done = (kept-all (U .tokens) b N, st, w) }
+  sound leaveLoop p E N b R st w = record { done = (kept-all (U .tokens) b N, st, w) }
+  sound giveBack p E N b R st w = record { done = (kept-all (U .tokens) b N, st, w) }
+  sound (insideLoop found missing) p E N b R st w = done-either (U .tokens) b R N (eqb (p .loops) 0) _ _ (sound missing p E N b R st (w .1)) (sound found p E N b R st (w .0))
+  sound (inFunction name m) p E N b R st w = done-restored (U .tokens) b R N p (run U low m (looped p 0) E N) (sound m (looped p 0) E N b R st w)
+  sound (down k) p E N b R st w = done-down (U .tokens) b (sortOf k) (tightFrom k) R (p .nodes) (p .current) N (low k p E N) st (h k p E N (st .fits) (st .cursor)) w
 
-  pub lower-sound : ((w : Which) (u : ℕ) (N : List ℕ) → Wp u (body T w) (Held T (sortOf w) (tightFrom w) u) u N) → (l : ℕ) (w : Which) → Reads (sortOf w) (tightFrom w) (lower T l w)
-  unfolding lower
-  lower-sound h zero w p E N f c = record { done = kept-all (p .nodes) N }
-  lower-sound h (suc l) w p E N f c = sound (lower T l) (lower-sound h l) (body T w) p E N (p .nodes) (Held T (sortOf w) (tightFrom w) (p .nodes)) (record { low = omega arith; fits = f; cursor = c; forest = forest-none T (p .nodes) N }) (h w (p .nodes) N)
+pub lower-sound : (U : View) → ((w : Which) (u : ℕ) (N : List ℕ) → Wp (U .tokens) u (body U w) (Held (U .tokens) (sortOf w) (tightFrom w) u) u N) → (l : ℕ) (w : Which) → Reads (U .tokens) (sortOf w) (tightFrom w) (lower U l w)
+unfolding lower
+lower-sound U h zero w p E N f c = record { done = kept-all (U .tokens) (p .nodes) N }
+lower-sound U h (suc l) w p E N f c = sound U (lower U l) (lower-sound U h l) (body U w) p E N (p .nodes) (Held (U .tokens) (sortOf w) (tightFrom w) (p .nodes)) (record { low = omega arith; fits = f; cursor = c; forest = forest-none (U .tokens) (p .nodes) N }) (h w (p .nodes) N)

@@ -15,7 +15,7 @@ use Rattle.records.proofs.Rest.{zeroed-length, zeroed-take}
 use Rattle.parser.specs.declared.State.{State}
 use Rattle.parser.specs.declared.Found.{Found}
 use Rattle.parser.specs.declared.Got.the-variants.{Node, Stop}
-use Rattle.parser.specs.Tokens.{count, kindAt}
+use Rattle.parser.specs.Tokens.{View, count, kindAt}
 use Rattle.parser.specs.Tables.{Reply, reply, freshState, consumeAt}
 use Rattle.parser.specs.Programs.{Which, Declaration, consume, run}
 use Rattle.parser.specs.Grammar.{firstOf, lower}
@@ -28,20 +28,23 @@ use Rattle.trees.proofs.TreeLists.{Listing, fits-later, list-done, memb
 use Rattle.trees.proofs.TreeReaders.{body-ok}
 
 -- at every level each reading makes well-formed rows, keeps those before it, and gives the last of them
-pub lower-reads : (T : List ℕ) (l : ℕ) (w : Which) → Reads T (sortOf w) (tightFrom w) (lower T l w)
-lower-reads T = lower-sound T (body-ok T)
+pub lower-reads : (U : View) (l : ℕ) (w : Which) → Reads (U .tokens) (sortOf w) (tightFrom w) (lower U l w)
+lower-reads U = lower-sound U (body-ok U)
 
 -- so with well-formed rows before it there are well-formed rows after it
-pub lower-keeps : (T : List ℕ) (l : ℕ) (w : Which) (b : ℕ) (p : State) (E N : List ℕ) → Stands T b (p .nodes) (p .current) N → Done T b (Held T (sortOf w) (tightFrom w) (p .nodes)) N (lower T l w p E N)
-lower-keeps T l w b p E N st = done-down T b (sortOf w) (tightFrom w) (Held T (sortOf w) (tightFrom w) (p .nodes)) (p .nodes) (p .current) N (lower T l w p E N) st (lower-reads T l w p E N (st .fits) (st .cursor)) (λ f v M l x h. h)
+pub lower-keeps : (U : View) (l : ℕ) (w : Which) (b : ℕ) (p : State) (E N : List ℕ) → Stands (U .tokens) b (p .nodes) (p .current) N → Done (U .tokens) b (Held (U .tokens) (sortOf w) (tightFrom w) (p .nodes)) N (lower U l w p E N)
+lower-keeps U l w b p E N st = done-down (U .tokens) b (sortOf w) (tightFrom w) (Held (U .tokens) (sortOf w) (tightFrom w) (p .nodes)) (p .nodes) (p .current) N (lower U l w p E N) st (lower-reads U l w p E N (st .fits) (st .cursor)) (λ f v M l x h. h)
 
 -- a top-level statement
-top-reads : (T : List ℕ) → Reads T Statement 0 (topLevel T)
+top-reads : (U : View) → Reads (U .tokens) Statement 0 (topLevel U)
 unfolding topLevel run
-top-reads T p E N f c = done-then T (p .nodes) (Held T Statement 0 (p .nodes)) (Held T Statement 0 (p .nodes)) N (lower T 128 Declaration p E N) _ (lower-reads T 128 Declaration p E N f c) λ n q E M st h.
-    done-then T (p .nodes) (λ g v M. Held T Statement 0 (p .nodes) n v M) (Held T Statement 0 (p .nodes)) M (consumeAt T Newline 4 q E M) _
-    (sound T (lower T 0) (lower-reads T 0) (consume Newline 4) q E M (p .nodes) (λ g v M. Held T Statement 0 (p .nodes) n v M) st (λ t c. h))
+top-reads U p E N f c = done-then T (p .nodes) (Held T Statement 0 (p .nodes)) (Held T Statement 0 (p .nodes)) N (lower U 128 Declaration p E N) _ (lower-reads U 128 Declaration p E N f c) λ n q E M st h.
+    done-then T (p .nodes) (λ g v M. Held T Statement 0 (p .nodes) n v M) (Held T Statement 0 (p .nodes)) M (consumeAt U Newline 4 q E M) _
+    (sound U (lower U 0) (lower-reads U 0) (consume Newline 4) q E M (p .nodes) (λ g v M. Held T Statement 0 (p .nodes) n v M) st (λ t c. h))
     λ g r E M st h. record { done = (kept-all T (p .nodes) M, st, h) }
+  where
+    T : List ℕ
+    T = U .tokens
 
 -- what a parsing comes to is well formed
 abbrev pub Whole : List ℕ → Parsed → Type 0
@@ -69,19 +72,19 @@ or-tree T first last u c N (reply q (Node f) E M) k st s d h =
     h f q E M (r .done .1) (r .done .2 .0) (r .done .2 .1) (r .done .2 .2)
 or-tree T first last u c N (reply q (Stop o) E M) k st s d h = ends-tree T first last u N M (st .forest) s (d .done .same)
 
-statements-tree : (f : ℕ) (T : List ℕ) (first last : ℕ) (p : State) (E N : List ℕ) → Stands T 0 (p .nodes) (p .current) N → Listing T Statement 0 first last (p .nodes) N → Whole T (statements f T first last p E N)
+statements-tree : (f : ℕ) (U : View) (first last : ℕ) (p : State) (E N : List ℕ) → Stands (U .tokens) 0 (p .nodes) (p .current) N → Listing (U .tokens) Statement 0 first last (p .nodes) N → Whole (U .tokens) (statements f U first last p E N)
 unfolding statements
-statements-tree zero T first last p E N st s = ends-tree T first last (p .nodes) N N (st .forest) s (λ i k l h c. refl)
-statements-tree (suc f) T first last p E N st s = end-tree T (eqb (kindAt T (p .current)) 0) _ _
-    (ends-tree T first last (p .nodes) N N (st .forest) s (λ i k l h c. refl))
-    (or-tree T first last (p .nodes) (p .current) N (topLevel T p E N) _ st s (top-reads T p E N (st .fits) (st .cursor)) λ n q E M st l x h.
-    let d = done-link T 0 (λ g v O. Listing T Statement 0 (firstOf first (n .node)) (n .node) v O) last (n .node) q E M st (member-link (n .node) s l x (h .child .above) (h .child .below), λ O k. member-next (n .node) (omega arith) s l x (h .root) (h .child) k) in
-    statements-tree f T (firstOf first (n .node)) (n .node) q E (linked M last (n .node)) (d .done .1) (d .done .2))
+statements-tree zero U first last p E N st s = ends-tree (U .tokens) first last (p .nodes) N N (st .forest) s (λ i k l h c. refl)
+statements-tree (suc f) U first last p E N st s = end-tree (U .tokens) (eqb (kindAt (U .tokens) (p .current)) 0) _ _
+    (ends-tree (U .tokens) first last (p .nodes) N N (st .forest) s (λ i k l h c. refl))
+    (or-tree (U .tokens) first last (p .nodes) (p .current) N (topLevel U p E N) _ st s (top-reads U p E N (st .fits) (st .cursor)) λ n q E M st l x h.
+    let d = done-link (U .tokens) 0 (λ g v O. Listing (U .tokens) Statement 0 (firstOf first (n .node)) (n .node) v O) last (n .node) q E M st (member-link (n .node) s l x (h .child .above) (h .child .below), λ O k. member-next (n .node) (omega arith) s l x (h .root) (h .child) k) in
+    statements-tree f U (firstOf first (n .node)) (n .node) q E (linked M last (n .node)) (d .done .1) (d .done .2))
 
--- the kept nodes of every parsing are well-formed trees, whatever the tokens and however long the tables
-pub parsed-tree : (rule : ℕ) (T : List ℕ) (errors : ℕ) (E N : List ℕ) → Whole T (parsed rule T errors E N)
+-- the kept nodes of every parsing are well-formed trees, whatever the tokens, however newlines are passed and however long the tables
+pub parsed-tree : (rule : ℕ) (U : View) (errors : ℕ) (E N : List ℕ) → Whole (U .tokens) (parsed rule U errors E N)
 unfolding parsed
-parsed-tree rule T errors E N = statements-tree (suc (count T)) T 0 0 (freshState rule errors) E N (record { low = omega arith; fits = omega arith; cursor = omega arith; forest = forest-none T 0 N }) (inl (refl, refl))
+parsed-tree rule U errors E N = statements-tree (suc (count (U .tokens))) U 0 0 (freshState rule errors) E N (record { low = omega arith; fits = omega arith; cursor = omega arith; forest = forest-none (U .tokens) 0 N }) (inl (refl, refl))
 
 -- ---- what that says of each child and each member of its list
 abbrev Sound : List ℕ → ℕ → Column → ℕ → Type 0

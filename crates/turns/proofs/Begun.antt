@@ -10,7 +10,7 @@ use lib.ListN.{length, getD, drop, length-append, List·getD-append}
 use lib.Seq.{getD-append-add}
 use borrow.Author.Tests.{eqb-true, eq-eqb, ne-eqb}
 use Rattle.rules.specs.Rules.{known}
-use Rattle.records.specs.Table.{room, tokenWidth, errorWidth}
+use Rattle.records.specs.Table.{room, tokenWidth, errorWidth, indexWidth}
 use Rattle.records.specs.Words.{tokenWords}
 use Rattle.records.specs.Rows.{Rows}
 use Rattle.records.specs.declared.TokenData.{TokenData}
@@ -18,13 +18,13 @@ use Rattle.records.proofs.Room.{room-length}
 use Rattle.records.proofs.Field.{field-room}
 use Rattle.records.proofs.Rows.{rows-length, row-at}
 use Rattle.lexer.specs.Lex.{Result, lexedOf}
-use Rattle.lexing.specs.Kept.{Good, Eof, Ending, whole, short, Keeps}
-use Rattle.lexing.proofs.Kept.{lexed-keeps}
-use Rattle.lexing.proofs.Answer.{tests, token-count, tokens-within, errors-within}
+use Rattle.lexing.specs.Kept.{Good, Eof, Ending, whole, short}
+use Rattle.lexing.proofs.Answer.{token-count, tokens-within, errors-within}
 use Rattle.parser.specs.Tokens.{kindAt}
 use Rattle.entry.specs.Entry.{Entered, over, entered}
-use Rattle.entry.proofs.Ways.{on-ended}
+use Rattle.entry.proofs.Ways.{on-ended, on-fits}
 use Rattle.whole.proofs.Sizes.{over-keeps}
+use Rattle.whole.proofs.Index.{lexed-whole, index-agree, index-long}
 use Rattle.host.specs.declared.Parser.{Parser}
 use Rattle.host.specs.Fits.{noEof, onlyEof}
 use Rattle.host.specs.Kept.{fresh}
@@ -32,11 +32,6 @@ use Rattle.steps.specs.Steps.{Called, begunBy, begun, nexts}
 use Rattle.steps.proofs.Cases.{begun-known}
 use Rattle.turns.proofs.Steady as steady
 use Rattle.turns.proofs.Steady.{Fit, Steady, going, rest-steady, reads-steady, steady-ends}
-
--- a lexing that reached the end keeps what every lexing keeps
-lexed-whole : (rule : ℕ) (s : List ℕ) (a b : ℕ) → lexedOf rule s a b .outcome ≡ 0 → Keeps s a b (lexedOf rule s a b)
-lexed-whole rule s a b =
-    tests (λ r. r .outcome ≡ 0 → Keeps s a b r) rule s a b (λ z. absurd (omega (arith, z))) (λ z. absurd (omega (arith, z))) (λ z. absurd (omega (arith, z))) λ z. lexed-keeps rule s a b
 
 module _ (n m : ℕ) (ws rest : List ℕ) (d : TokenData) (rows : Rows tokenWords (Good n) ws m) (eof : Eof n d) (fits : m + 1 ≤ room tokenWidth ((ws ++ tokenWords d) ++ rest)) where
   abbrev T : List ℕ
@@ -86,40 +81,43 @@ lexed-only n r t z (whole ws m d o rows le eof is count) h =
 lexed-only n r t z (short ne rows le) h = absurd (ne z)
 
 -- the parser that begin leaves where the end was reached
-fresh-fit : (s t e n : List ℕ) (p : Parser) → known (p .rule) ≡ true → let d = entered (p .rule) (p .way) s t e n in d .outcome ≡ 0 → Fit (d .tokens) (d .errors) (d .nodes) (fresh p (d .tokenCount) (d .errorCount))
-fresh-fit s t e n p r h =
+fresh-fit : (s t e n x : List ℕ) (p : Parser) → known (p .rule) ≡ true → let d = entered (p .rule) (p .way) s t e n x in d .outcome ≡ 0 → Fit (d .tokens) (d .errors) (d .nodes) (d .index) (fresh p (d .tokenCount) (d .errorCount))
+fresh-fit s t e n x p r h =
     let d = lexedOf (p .rule) s (room tokenWidth t) (room errorWidth e) in
-    let z : d .outcome ≡ 0 = on-ended (p .way) (d .outcome) (d .errorCount) h in
+    let z : d .outcome ≡ 0 = on-ended (p .way) (room indexWidth x) d h in
     let k = lexed-whole (p .rule) s (room tokenWidth t) (room errorWidth e) z in
     let a : room tokenWidth (over (d .tokens) t) ≡ room tokenWidth t = room-length tokenWidth (over (d .tokens) t) t (over-keeps (d .tokens) t (tokens-within (p .rule) s t (room errorWidth e))) in
     let b : room errorWidth (over (d .errors) e) ≡ room errorWidth e = room-length errorWidth (over (d .errors) e) e (over-keeps (d .errors) e (errors-within (p .rule) s e (room tokenWidth t))) in
     let f : d .tokenCount ≤ room tokenWidth (over (d .tokens) t) = subst (λ (m : ℕ). d .tokenCount ≤ m) (sym a) (k .token-room) in
     let o = lexed-only (length s) d t z (k .ending) f in
-    record { rule = r; tokens = f; errors = subst (λ (m : ℕ). d .errorCount ≤ m) (sym b) (k .error-room); nodes = omega arith; last = omega arith; loops = omega arith; cursor = o .1; eof = o .0 }
+    let g = index-agree (p .rule) (p .way) s t e n x h in
+    let c : d .tokenCount ≡ g .0 + 1 = g .1 in
+    let y = room-length indexWidth (entered (p .rule) (p .way) s t e n x .index) x (index-long (p .rule) (p .way) s t e n x h) in
+    record { rule = r; tokens = f; errors = subst (λ (m : ℕ). d .errorCount ≤ m) (sym b) (k .error-room); nodes = omega arith; last = omega arith; loops = omega arith; cursor = o .1; eof = o .0; index = subst (λ (m : ℕ). d .tokenCount ≤ m) (sym y) (on-fits (p .way) (room indexWidth x) d h); within = λ i l. let v = g .2 .within i (omega (arith, c, l)) in omega (arith, c, v) }
 
 one-not : _≡_ {A = ℕ} 1 0 → ⊥
 one-not h = omega (arith, h)
 
-begun-steady : (s t e n : List ℕ) (p : Parser) → known (p .rule) ≡ true → Steady (length s + 2) 0 (begun s t e n p)
-begun-steady s t e n p r = subst (Steady (length s + 2) 0) (begun-known s t e n p r) (at (eqb (d .outcome) 0) refl)
+begun-steady : (s t e n x : List ℕ) (p : Parser) → known (p .rule) ≡ true → Steady (length s + 2) 0 (begun s t e n x p)
+begun-steady s t e n x p r = subst (Steady (length s + 2) 0) (begun-known s t e n x p r) (at (eqb (d .outcome) 0) refl)
   where
     d : Entered
-    d = entered (p .rule) (p .way) s t e n
+    d = entered (p .rule) (p .way) s t e n x
 
     at : (x : Bool) → eqb (d .outcome) 0 ≡ x → Steady (length s + 2) 0 (begunBy x p d)
-    at true h = rest-steady (length s + 2) 0 (d .tokens) (fresh p (d .tokenCount) (d .errorCount)) (d .errors) (d .nodes) (fresh-fit s t e n p r (eqb-true (d .outcome) 0 h)) (token-count (p .rule) s (room tokenWidth t) (room errorWidth e)) (omega arith)
+    at true h = rest-steady (length s + 2) 0 (d .tokens) (fresh p (d .tokenCount) (d .errorCount)) (d .errors) (d .nodes) (d .index) (fresh-fit s t e n x p r (eqb-true (d .outcome) 0 h)) (token-count (p .rule) s (room tokenWidth t) (room errorWidth e)) (omega arith)
     at false h = steady.over _ one-not
 
 -- a call that stands so gave the final answer, or answers 19
 steady-answers : (b j : ℕ) (c : Called) → Steady b j c → (c .stepped .parser .ended ≡ 0 → ⊥) ⊎ (c .stepped .answer .outcome ≡ 19)
 steady-answers b j _ (steady.over c z) = inl z
-steady-answers b j _ (going p T E N z o f m l) = inr o
+steady-answers b j _ (going p T E N X z o f m l) = inr o
 
-module _ (s t e n : List ℕ) (p : Parser) (r : known (p .rule) ≡ true) (k : ℕ) where
+module _ (s t e n x : List ℕ) (p : Parser) (r : known (p .rule) ≡ true) (k : ℕ) where
   -- after begin with a rule that is known and k reads, each over what the last call left, the final answer was given, or the call answers 19
-  pub never-refused : (nexts k (begun s t e n p) .stepped .parser .ended ≡ 0 → ⊥) ⊎ (nexts k (begun s t e n p) .stepped .answer .outcome ≡ 19)
-  never-refused = steady-answers (length s + 2) k (nexts k (begun s t e n p)) (reads-steady (length s + 2) k (begun s t e n p) (begun-steady s t e n p r))
+  pub never-refused : (nexts k (begun s t e n x p) .stepped .parser .ended ≡ 0 → ⊥) ⊎ (nexts k (begun s t e n x p) .stepped .answer .outcome ≡ 19)
+  never-refused = steady-answers (length s + 2) k (nexts k (begun s t e n x p)) (reads-steady (length s + 2) k (begun s t e n x p) (begun-steady s t e n x p r))
 
   -- a source of m bytes has its final answer after m + 2 reads
-  pub final-comes : length s + 2 ≤ k → nexts k (begun s t e n p) .stepped .parser .ended ≡ 0 → ⊥
-  final-comes h = steady-ends (length s + 2) k (nexts k (begun s t e n p)) h (reads-steady (length s + 2) k (begun s t e n p) (begun-steady s t e n p r))
+  pub final-comes : length s + 2 ≤ k → nexts k (begun s t e n x p) .stepped .parser .ended ≡ 0 → ⊥
+  final-comes h = steady-ends (length s + 2) k (nexts k (begun s t e n x p)) h (reads-steady (length s + 2) k (begun s t e n x p) (begun-steady s t e n x p r))

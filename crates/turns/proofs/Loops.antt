@@ -17,8 +17,8 @@ use Rattle.parser.specs.declared.Found.{Found}
 use Rattle.parser.specs.declared.Got.the-variants.{Node, Stop}
 use Rattle.parser.specs.declared.Seen.{Seen}
 use Rattle.parser.specs.declared.Seen.the-variants.{At, Nothing}
-use Rattle.parser.specs.Tokens.{kindAt, matchesAt}
-use Rattle.parser.specs.Tables.{Reply, reply, moved, looped, pushNode, pushError, ifSeen, andThen, consumeAt, requireAt}
+use Rattle.parser.specs.Tokens.{View, kindAt, matchesAt}
+use Rattle.parser.specs.Tables.{Reply, reply, moved, looked, looped, pushNode, pushError, ifSeen, andThen, consumeAt, requireAt}
 use Rattle.parser.specs.Programs.{Reader, Which, Declaration, Assignment, Operand, Prog, give, stop, _>>=_, _>>_, look, check, atEnd, previous, node, link, fail, failAt, consume, require, enterLoop, leaveLoop, giveBack, insideLoop, inFunction, down, either, restored, raised, run}
 use Rattle.parser.specs.Grammar.{firstOf, property, when, assigned, Level, levels, fuel, blockFrom, block, expressionStmt, parametersFrom, parameters, functionBody, fnStmt, fnExpr, methodsFrom, class, letStmt, namesFrom, enhancedFor, classicFor, forLoop, tryCatch, elifsFrom, elseFrom, ifStmt, ret, brk, cont, whileStmt, statement, declaration, argumentsFrom, arguments, list, dictElementsFrom, dictionary, closed, access, superExpr, primary, finishCall, callFrom, call, unary, lookMany, binaryFrom, binary, assignment, body, lower}
 use Rattle.parser.specs.Whole.{topLevel}
@@ -64,7 +64,7 @@ assigned-calm z (Property n o) a v t h = tt
 assigned-calm z Other a v t h = (h, tt)
 assigned-calm z Empty a v t h = (h, tt)
 
-module _ (T : List ℕ) where
+module _ (T : View) where
   block-from-calm : (z : ℕ) → (f first last : ℕ) → Calm z (blockFrom T f first last)
   unfolding blockFrom
   block-from-calm z zero first last = tt
@@ -290,16 +290,16 @@ low-restored p (reply q (Stop o) E N) l h = record { low = tt }
 low-push : (d : rows.Node) → StaysLow (pushNode d)
 low-push d p E N l = push-node Low d p E N (λ _. record { low = l }) (record { low = tt })
 
-low-error : (T : List ℕ) (m i : ℕ) → StaysLow (pushError T m i)
-low-error T m i p E N l = push-error Low T m i p E N (λ _. record { low = l }) (record { low = tt })
+low-error : (t : List ℕ) (m i : ℕ) → StaysLow (pushError t m i)
+low-error t m i p E N l = push-error Low t m i p E N (λ _. record { low = l }) (record { low = tt })
 
-low-consume : (T : List ℕ) (kind m : ℕ) → StaysLow (consumeAt T kind m)
+low-consume : (T : View) (kind m : ℕ) → StaysLow (consumeAt T kind m)
 unfolding consumeAt
-low-consume T kind m p E N l = low-seen _ _ _ (λ i e. let u = matches-on T (p .current) kind i e in record { low = omega arith }) (low-error T m (p .current) p E N l)
+low-consume T kind m p E N l = low-seen _ _ _ (λ i e. let u = matches-on T (p .current) kind i e in record { low = omega arith }) (low-error (T .tokens) m (p .current) (looked p 1) E N l)
 
-low-require : (T : List ℕ) (kind m : ℕ) → StaysLow (requireAt T kind m)
+low-require : (T : View) (kind m : ℕ) → StaysLow (requireAt T kind m)
 unfolding requireAt
-low-require T kind m p E N l = low-seen _ _ _ (λ i e. let u = matches-on T (p .current) kind i e in record { low = omega arith }) (low-then _ _ (low-error T m (p .current) p E N l) λ f q E N h. record { low = tt })
+low-require T kind m p E N l = low-seen _ _ _ (λ i e. let u = matches-on T (p .current) kind i e in record { low = omega arith }) (low-then _ _ (low-error (T .tokens) m (p .current) (looked p 1) E N l) λ f q E N h. record { low = tt })
 
 -- a count is raised by one at the most
 raised-most : (n : ℕ) → raised n ≤ n + 1
@@ -311,11 +311,11 @@ raised-most n = go (ltb n 4294967295)
     go false = omega arith
 
 -- a look passes as many tokens as its kind says
-passed : (T : List ℕ) (at kind i : ℕ) → matchesAt T at kind ≡ At i → at + passes kind ≤ i
+passed : (T : View) (at kind i : ℕ) → matchesAt T at kind ≡ At i → at + passes kind ≤ i
 passed T at zero i e = let u = matches-on T at 0 i e in omega arith
 passed T at (suc kind) i e = let u = matches-at T at kind i e .0 in omega arith
 
-module _ (T : List ℕ) (low : Which → Reader) (h : (w : Which) → MovesOn T (low w)) (g : (w : Which) → StaysLow (low w)) where
+module _ (T : View) (low : Which → Reader) (h : (w : Which) → MovesOn T (low w)) (g : (w : Which) → StaysLow (low w)) where
   -- with z tokens passed just before
   run-low : (P : Prog) (z : ℕ) → Calm z P → (p : State) (E N : List ℕ) → p .loops + z ≤ p .current → Low (run T low P p E N)
   unfolding run
@@ -323,14 +323,14 @@ module _ (T : List ℕ) (low : Which → Reader) (h : (w : Which) → MovesOn T 
   run-low (stop o) z c p E N l = record { low = tt }
   run-low (m >>= k) z c p E N l = low-then _ _ (run-low m z (c .0) p E N l) λ f q E N u. run-low (k f) 0 (c .1 f) q E N (omega arith)
   run-low (m >> k) z c p E N l = low-then _ _ (run-low m z (c .0) p E N l) λ f q E N u. run-low k 0 (c .1) q E N (omega arith)
-  run-low (look kind found missing) z c p E N l = low-seen _ _ _ (λ i e. let u = passed T (p .current) kind i e in run-low (found i) (passes kind) (c .0 i tt) (moved p i) E N (omega arith)) (run-low missing z (c .1) p E N l)
-  run-low (check kind found missing) z c p E N l = low-seen _ _ _ (λ i e. let u = check-at T (p .current) kind i e .0 in run-low found z (c .0) (moved p i) E N (omega arith)) (run-low missing z (c .1) p E N l)
-  run-low (atEnd found missing) z c p E N l = low-either (eqb (kindAt T (p .current)) 0) _ _ (run-low found z (c .0) p E N l) (run-low missing z (c .1) p E N l)
+  run-low (look kind found missing) z c p E N l = low-seen _ _ _ (λ i e. let u = passed T (p .current) kind i e in run-low (found i) (passes kind) (c .0 i tt) (moved (looked p 1) i) E N (omega arith)) (run-low missing z (c .1) (looked p 1) E N l)
+  run-low (check kind found missing) z c p E N l = low-seen _ _ _ (λ i e. let u = check-at T (p .current) kind i e .0 in run-low found z (c .0) (moved (looked p 1) i) E N (omega arith)) (run-low missing z (c .1) (looked p 1) E N l)
+  run-low (atEnd found missing) z c p E N l = low-either (eqb (kindAt (T .tokens) (p .current)) 0) _ _ (run-low found z (c .0) p E N l) (run-low missing z (c .1) p E N l)
   run-low previous z c p E N l = record { low = omega arith }
   run-low (node d) z c p E N l = low-push d p E N (omega arith)
   run-low (link prev next) z c p E N l = record { low = omega arith }
-  run-low (fail message) z c p E N l = low-error T message (p .current) p E N (omega arith)
-  run-low (failAt message token) z c p E N l = low-error T message (token - 1) p E N (omega arith)
+  run-low (fail message) z c p E N l = low-error (T .tokens) message (p .current) p E N (omega arith)
+  run-low (failAt message token) z c p E N l = low-error (T .tokens) message (token - 1) p E N (omega arith)
   run-low (consume kind message) z c p E N l = low-consume T kind message p E N (omega arith)
   run-low (require kind message) z c p E N l = low-require T kind message p E N (omega arith)
   run-low enterLoop z c p E N l = let u = raised-most (p .loops) in record { low = omega arith }
@@ -340,12 +340,12 @@ module _ (T : List ℕ) (low : Which → Reader) (h : (w : Which) → MovesOn T 
   run-low (inFunction name m) z c p E N l = low-restored p _ (omega arith) (stays T low h m (p .current) (p .current) (Unit {0}) (looped p 0) E N (omega arith) (omega arith) tt)
   run-low (down w) z c p E N l = g w p E N (omega arith)
 
-lower-low : (T : List ℕ) (l : ℕ) (w : Which) → StaysLow (lower T l w)
+lower-low : (T : View) (l : ℕ) (w : Which) → StaysLow (lower T l w)
 unfolding lower
 lower-low T zero w p E N h = record { low = tt }
 lower-low T (suc l) w p E N h = run-low T (lower T l) (lower-moves T l) (lower-low T l) (body T w) 0 (body-calm T 0 w) p E N (omega arith)
 
 -- a top-level statement
-pub top-low : (T : List ℕ) → StaysLow (topLevel T)
+pub top-low : (T : View) → StaysLow (topLevel T)
 unfolding topLevel
 top-low T p E N l = low-then _ _ (lower-low T 128 Declaration p E N l) λ f q E N h. low-then _ _ (low-consume T Newline 4 q E N h) λ g r E N i. record { low = i }

@@ -10,13 +10,13 @@ use lib.Dec.{eqb}
 use borrow.Author.Tests.{eqb-true, lt-ltb, le-leb}
 use Rattle.token.specs.Kind.{Newline}
 use Rattle.rules.specs.Rules.{known}
-use Rattle.records.specs.Table.{room, linked, tokenWidth, errorWidth, nodeWidth}
+use Rattle.records.specs.Table.{room, linked, tokenWidth, errorWidth, nodeWidth, indexWidth}
 use Rattle.records.proofs.Room.{room-length}
 use Rattle.records.proofs.Rest.{linked-length}
 use Rattle.parser.specs.declared.State as state
 use Rattle.parser.specs.declared.Found.{Found}
 use Rattle.parser.specs.declared.Got.the-variants.{Node, Stop}
-use Rattle.parser.specs.Tokens.{count, kindAt}
+use Rattle.parser.specs.Tokens.{View, count, kindAt, skipLines, indexed}
 use Rattle.parser.specs.Tables.{Reply, reply, andThen, consumeAt}
 use Rattle.parser.specs.Programs.{Declaration}
 use Rattle.parser.specs.Grammar.{lower}
@@ -25,7 +25,8 @@ use Rattle.parser.specs.Whole.{topLevel}
 use Rattle.progress.proofs.Moves.{Past, never}
 use Rattle.progress.proofs.Fuel.{top-moves}
 use Rattle.parsing.proofs.Frame.{Grown, top-frames, grown-consume}
-use Rattle.parsing.proofs.Ahead.{agree-self, cursorOf, ahead-at, top-ahead}
+use Rattle.parsing.specs.Ahead.{Agree}
+use Rattle.parsing.proofs.Ahead.{cursorOf, ahead-at, top-ahead}
 use Rattle.trees.proofs.TreeTyping.{Done, Held}
 use Rattle.trees.proofs.Trees.{lower-reads}
 use Rattle.host.specs.declared.Parser.{Parser}
@@ -36,7 +37,7 @@ use Rattle.steps.proofs.Cases.{next-again, next-goes-on}
 use Rattle.turns.proofs.Loops.{Low, top-low}
 
 -- what a call leaves where a token before EOF is left to be read
-pub record Fit (T E N : List ℕ) (p : Parser) : Type 0 where
+pub record Fit (T E N X : List ℕ) (p : Parser) : Type 0 where
   pub rule : known (p .rule) ≡ true
   pub tokens : p .tokens ≤ room tokenWidth T
   pub errors : p .errors ≤ room errorWidth E
@@ -45,16 +46,18 @@ pub record Fit (T E N : List ℕ) (p : Parser) : Type 0 where
   pub loops : p .loops ≤ p .current
   pub cursor : p .current < p .tokens
   pub eof : onlyEof T (p .tokens) ≡ true
+  pub index : p .tokens ≤ room indexWidth X
+  pub within : (i : ℕ) → i < p .tokens → skipLines (indexed T X) i < p .tokens
 
 -- it passes the test
-fit-fits : (T E N : List ℕ) (p : Parser) → Fit T E N p → fitsIn T E N p ≡ true
+fit-fits : (T E N X : List ℕ) (p : Parser) → Fit T E N X p → fitsIn T E N X p ≡ true
 unfolding fitsIn
-fit-fits T E N p f =
+fit-fits T E N X p f =
     let a = f .nodes in
     let b = f .last in
     let c = f .loops in
     let d = f .cursor in
-    rw (le-leb (p .tokens) (room tokenWidth T) (f .tokens), le-leb (p .errors) (room errorWidth E) (f .errors), le-leb (p .nodes) (room nodeWidth N) a, le-leb (p .last) (room nodeWidth N) (omega arith), lt-ltb (p .current) (p .tokens) d, le-leb (p .loops) (p .tokens) (omega arith), f .eof) refl
+    rw (le-leb (p .tokens) (room tokenWidth T) (f .tokens), le-leb (p .errors) (room errorWidth E) (f .errors), le-leb (p .nodes) (room nodeWidth N) a, le-leb (p .last) (room nodeWidth N) (omega arith), le-leb (p .tokens) (room indexWidth X) (f .index), lt-ltb (p .current) (p .tokens) d, le-leb (p .loops) (p .tokens) (omega arith), f .eof) refl
 
 -- the last token is EOF
 only-end : (T : List ℕ) (n : ℕ) → onlyEof T n ≡ true → (k : ℕ) × (n ≡ suc k) × (kindAt T k ≡ 0)
@@ -80,26 +83,27 @@ in-then : (n : Found) (q : state.State) (E N : List ℕ) (r : Reply) → Grown (
 in-then n q E N (reply r (Node g) E′ N′) h l = let u = h .nodes .more in record { kept = omega arith }
 in-then n q E N (reply r (Stop o) E′ N′) h l = record { kept = tt }
 
-top-in : (T : List ℕ) (p : state.State) (E N : List ℕ) → p .nodes ≤ room nodeWidth N → p .current ≤ count T → In (topLevel T p E N)
+top-in : (T : View) (p : state.State) (E N : List ℕ) → p .nodes ≤ room nodeWidth N → p .current ≤ count (T .tokens) → In (topLevel T p E N)
 unfolding topLevel
 top-in T p E N a b = first (lower T 128 Declaration p E N) (lower-reads T 128 Declaration p E N a b)
   where
-    first : (r : Reply) → Done T (p .nodes) (Held T Statement 0 (p .nodes)) N r → In (andThen r λ f q E N. andThen (consumeAt T Newline 4 q E N) λ g r E N. reply r (Node f) E N)
+    first : (r : Reply) → Done (T .tokens) (p .nodes) (Held (T .tokens) Statement 0 (p .nodes)) N r → In (andThen r λ f q E N. andThen (consumeAt T Newline 4 q E N) λ g r E N. reply r (Node f) E N)
     first (reply q (Node f) E N) d = let e : f .node ≡ q .nodes = d .done .2 .root in in-then f q E N _ (grown-consume T Newline 4 q E N) (omega arith)
     first (reply q (Stop o) E N) d = record { kept = tt }
 
-module _ (T E N : List ℕ) (p : Parser) (fit : Fit T E N p) (q : state.State) (f : Found) (E′ N′ : List ℕ) (t : reply q (Node f) E′ N′ ≡ topLevel T (stateOf p) E N) where
+module _ (T E N X : List ℕ) (p : Parser) (fit : Fit T E N X p) (q : state.State) (f : Found) (E′ N′ : List ℕ) (t : reply q (Node f) E′ N′ ≡ topLevel (indexed T X) (stateOf p) E N) where
   -- the parser behind it fits the tables that it left
-  behind-fit : Fit T E′ (linked N′ (p .last) (f .node)) (behind p q (f .node))
+  behind-fit : Fit T E′ (linked N′ (p .last) (f .node)) X (behind p q (f .node))
   behind-fit =
       let end = only-end T (p .tokens) (fit .eof) in
       let size : p .tokens ≡ suc (end .0) = end .1 in
       let below : p .current < p .tokens = fit .cursor in
       let room-of : p .tokens ≤ count T = fit .tokens in
-      let g = subst (Grown (p .errors) E (p .nodes) N) (sym t) (top-frames T (stateOf p) E N) in
-      let l = subst Low (sym t) (top-low T (stateOf p) E N (fit .loops)) in
-      let i = subst In (sym t) (top-in T (stateOf p) E N (fit .nodes) (omega arith)) in
-      let at : q .current ≤ end .0 = subst (λ (r : Reply). cursorOf r ≤ end .0) (sym t) (ahead-at (end .0) (top-ahead T T (end .0) (agree-self T (end .0) (end .2)) (stateOf p) E N (omega arith))) in
+      let g = subst (Grown (p .errors) E (p .nodes) N) (sym t) (top-frames (indexed T X) (stateOf p) E N) in
+      let l = subst Low (sym t) (top-low (indexed T X) (stateOf p) E N (fit .loops)) in
+      let i = subst In (sym t) (top-in (indexed T X) (stateOf p) E N (fit .nodes) (omega arith)) in
+      let self : Agree (end .0) (indexed T X) (indexed T X) = record { counts = refl; end = end .2; kinds = λ i h. refl; starts = λ i h. refl; lines = λ i h. refl; hops = λ i h o. refl; within = λ i h. let y = fit .within i (omega (arith, size, h)) in omega (arith, size, y) } in
+      let at : q .current ≤ end .0 = subst (λ (r : Reply). cursorOf r ≤ end .0) (sym t) (ahead-at (end .0) (top-ahead (indexed T X) (indexed T X) (end .0) self (stateOf p) E N (omega arith))) in
       record {
         rule = fit .rule;
         tokens = fit .tokens;
@@ -109,48 +113,50 @@ module _ (T E N : List ℕ) (p : Parser) (fit : Fit T E N p) (q : state.State) (
         loops = l .low;
         cursor = omega arith;
         eof = fit .eof;
+        index = fit .index;
+        within = fit .within;
       }
 
 -- ---- calls
 -- the final answer was given; or the call answered 19, and left a parser that fits, with b tokens at the most and the cursor at token j or behind it
 pub data Steady (b j : ℕ) : Called → Type 0 where
   over : (c : Called) → (c .stepped .parser .ended ≡ 0 → ⊥) → Steady b j c
-  going : (p : Parser) (T E N : List ℕ) → p .ended ≡ 0 → p .outcome ≡ 19 → Fit T E N p → p .tokens ≤ b → j ≤ p .current → Steady b j (left (leaving p) T E N)
+  going : (p : Parser) (T E N X : List ℕ) → p .ended ≡ 0 → p .outcome ≡ 19 → Fit T E N X p → p .tokens ≤ b → j ≤ p .current → Steady b j (left (leaving p) T E N X)
 
 one-not : _≡_ {A = ℕ} 1 0 → ⊥
 one-not h = omega (arith, h)
 
-marked-fit : (T E N : List ℕ) (p : Parser) → Fit T E N p → Fit T E N (markedAs 0 19 p)
-marked-fit T E N p f = record { rule = f .rule; tokens = f .tokens; errors = f .errors; nodes = f .nodes; last = f .last; loops = f .loops; cursor = f .cursor; eof = f .eof }
+marked-fit : (T E N X : List ℕ) (p : Parser) → Fit T E N X p → Fit T E N X (markedAs 0 19 p)
+marked-fit T E N X p f = record { rule = f .rule; tokens = f .tokens; errors = f .errors; nodes = f .nodes; last = f .last; loops = f .loops; cursor = f .cursor; eof = f .eof; index = f .index; within = f .within }
 
 -- behind a statement, or before the first
-pub rest-steady : (b j : ℕ) (T : List ℕ) (p : Parser) (E N : List ℕ) → Fit T E N p → p .tokens ≤ b → j ≤ p .current → Steady b j (restOf T p E N)
+pub rest-steady : (b j : ℕ) (T : List ℕ) (p : Parser) (E N X : List ℕ) → Fit T E N X p → p .tokens ≤ b → j ≤ p .current → Steady b j (restOf T p E N X)
 unfolding restOf
-rest-steady b j T p E N f m l = go (eqb (kindAt T (p .current)) 0)
+rest-steady b j T p E N X f m l = go (eqb (kindAt T (p .current)) 0)
   where
-    go : (x : Bool) → Steady b j (pickCall x (λ _. final 0 p T E N) λ _. left (leaving (markedAs 0 19 p)) T E N)
+    go : (x : Bool) → Steady b j (pickCall x (λ _. final 0 p T E N X) λ _. left (leaving (markedAs 0 19 p)) T E N X)
     go true = over _ one-not
-    go false = going (markedAs 0 19 p) T E N refl refl (marked-fit T E N p f) m l
+    go false = going (markedAs 0 19 p) T E N X refl refl (marked-fit T E N X p f) m l
 
 -- what came of a statement
-came-steady : (b j : ℕ) (T : List ℕ) (p : Parser) (E N : List ℕ) → Fit T E N p → p .tokens ≤ b → j ≤ p .current → (r : Reply) → r ≡ topLevel T (stateOf p) E N → Steady b (suc j) (afterOne T p r)
-came-steady b j T p E N f m l (reply q (Node n) E′ N′) t =
-    let u = subst (Past (p .current) (suc (p .current)) (p .current < count T)) (sym t) (top-moves T (stateOf p) E N) .past .0 in
-    rest-steady b (suc j) T (behind p q (n .node)) E′ (linked N′ (p .last) (n .node)) (behind-fit T E N p f q n E′ N′ t) m (omega arith)
-came-steady b j T p E N f m l (reply q (Stop o) E′ N′) t = over _ one-not
+came-steady : (b j : ℕ) (T : List ℕ) (p : Parser) (E N X : List ℕ) → Fit T E N X p → p .tokens ≤ b → j ≤ p .current → (r : Reply) → r ≡ topLevel (indexed T X) (stateOf p) E N → Steady b (suc j) (afterOne T X p r)
+came-steady b j T p E N X f m l (reply q (Node n) E′ N′) t =
+    let u = subst (Past (p .current) (suc (p .current)) (p .current < count T)) (sym t) (top-moves (indexed T X) (stateOf p) E N) .past .0 in
+    rest-steady b (suc j) T (behind p q (n .node)) E′ (linked N′ (p .last) (n .node)) X (behind-fit T E N X p f q n E′ N′ t) m (omega arith)
+came-steady b j T p E N X f m l (reply q (Stop o) E′ N′) t = over _ one-not
 
-one-steady : (b j : ℕ) (T : List ℕ) (p : Parser) (E N : List ℕ) → Fit T E N p → p .tokens ≤ b → j ≤ p .current → Steady b (suc j) (oneOf T p E N)
+one-steady : (b j : ℕ) (T : List ℕ) (p : Parser) (E N X : List ℕ) → Fit T E N X p → p .tokens ≤ b → j ≤ p .current → Steady b (suc j) (oneOf T p E N X)
 unfolding oneOf
-one-steady b j T p E N f m l = go (eqb (kindAt T (p .current)) 0)
+one-steady b j T p E N X f m l = go (eqb (kindAt T (p .current)) 0)
   where
-    go : (x : Bool) → Steady b (suc j) (pickCall x (λ _. final 0 p T E N) λ _. afterOne T p (topLevel T (stateOf p) E N))
+    go : (x : Bool) → Steady b (suc j) (pickCall x (λ _. final 0 p T E N X) λ _. afterOne T X p (topLevel (indexed T X) (stateOf p) E N))
     go true = over _ one-not
-    go false = came-steady b j T p E N f m l (topLevel T (stateOf p) E N) refl
+    go false = came-steady b j T p E N X f m l (topLevel (indexed T X) (stateOf p) E N) refl
 
 -- a read keeps it so, and is further on
 pub next-steady : (b j : ℕ) (c : Called) → Steady b j c → Steady b (suc j) (next c)
-next-steady b j c (over _ z) = subst (Steady b (suc j)) (next-again (c .tokens) (c .errors) (c .nodes) (c .stepped .parser) z) (over _ z)
-next-steady b j _ (going p T E N z o f m l) = subst (Steady b (suc j)) (next-goes-on T E N p z (fit-fits T E N p f) (f .rule)) (one-steady b j T p E N f m l)
+next-steady b j c (over _ z) = subst (Steady b (suc j)) (next-again (c .tokens) (c .errors) (c .nodes) (c .index) (c .stepped .parser) z) (over _ z)
+next-steady b j _ (going p T E N X z o f m l) = subst (Steady b (suc j)) (next-goes-on T E N X p z (fit-fits T E N X p f) (f .rule)) (one-steady b j T p E N X f m l)
 
 -- so are any number of reads
 pub reads-steady : (b k : ℕ) (c : Called) → Steady b 0 c → Steady b k (nexts k c)
@@ -161,4 +167,4 @@ reads-steady b (suc k) c s = next-steady b k (nexts k c) (reads-steady b k c s)
 -- as many reads as tokens reach the end
 pub steady-ends : (b k : ℕ) (c : Called) → b ≤ k → Steady b k c → c .stepped .parser .ended ≡ 0 → ⊥
 steady-ends b k _ h (over c z) = z
-steady-ends b k _ h (going p T E N z o f m l) = let u = f .cursor in absurd (omega arith)
+steady-ends b k _ h (going p T E N X z o f m l) = let u = f .cursor in absurd (omega arith)

@@ -6,7 +6,7 @@ use Prim.Native.Nat.{ℕ, _+_, _*_, _<_}
 use native.Mathlib.Omega.{arith}
 use lib.Dec.{eqb}
 use lib.ListN.{length, getD}
-use Rattle.records.specs.Table.{room, field, tokenWidth, errorWidth}
+use Rattle.records.specs.Table.{room, field, tokenWidth, errorWidth, indexWidth}
 use Rattle.records.specs.Words.{tokenWords}
 use Rattle.records.proofs.Room.{room-length}
 use Rattle.records.proofs.Rows.{rows-length, row-at}
@@ -15,14 +15,14 @@ use Rattle.lexing.specs.Begins.{Begins, beginsAt, Begun}
 use Rattle.lexing.proofs.Answer.{tokens-within}
 use Rattle.lexing.proofs.Begins.{lexing-begins}
 use Rattle.entry.specs.Ways.{onWay}
-use Rattle.entry.specs.Entry.{over, enteredAfter, entered}
+use Rattle.entry.specs.Entry.{over, withRoom, enteredAfter, entered}
 use Rattle.entry.specs.Reading.{Reading, readBy, reading}
 use Rattle.whole.specs.Begins.{TokensBegin}
 use Rattle.whole.proofs.Rooms.{lexed-rooms}
 use Rattle.whole.proofs.Sizes.{over-keeps}
 use Rattle.whole.proofs.Places.{front-word}
 
-module _ (rule : ℕ) (s t e n : List ℕ) where
+module _ (rule : ℕ) (s t e n x : List ℕ) where
   abbrev d : Result
   d = lexedOf rule s (room tokenWidth t) (room errorWidth e)
 
@@ -55,11 +55,11 @@ module _ (rule : ℕ) (s t e n : List ℕ) where
         omega (arith, x, y, z);
   }
 
-  after : (way : ℕ) (b : Bool) → TokensBegin s (readBy b rule (enteredAfter (onWay way d) t e n))
+  after : (way : ℕ) (b : Bool) → TokensBegin s (readBy b rule (enteredAfter (withRoom (room indexWidth x) (onWay way d)) t e n x))
   after way true = has _ refl refl
   after way false = has _ refl refl
 
 -- every token that a reading keeps, of any bytes into any tables
-pub reading-begins : (rule way : ℕ) (s t e n : List ℕ) → TokensBegin s (reading rule way s t e n)
+pub reading-begins : (rule way : ℕ) (s t e n x : List ℕ) → TokensBegin s (reading rule way s t e n x)
 unfolding reading
-reading-begins rule way s t e n = after rule s t e n way (eqb (entered rule way s t e n .outcome) 0)
+reading-begins rule way s t e n x = after rule s t e n x way (eqb (entered rule way s t e n x .outcome) 0)

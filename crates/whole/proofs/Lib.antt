@@ -5,3 +5,5 @@ pub mod Ways
 pub mod Places
 pub mod Begins
 pub mod One
+pub mod Looks
+pub mod Index

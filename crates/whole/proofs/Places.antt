@@ -10,7 +10,7 @@ use lib.Dec.{eqb}
 use lib.ListN.{length, getD, drop, List·getD-append}
 use lib.Seq.{getD-take}
 use Rattle.records.specs.declared.TokenData.{TokenData}
-use Rattle.records.specs.Table.{room, field, tokenWidth, errorWidth}
+use Rattle.records.specs.Table.{room, field, tokenWidth, errorWidth, indexWidth}
 use Rattle.records.specs.Words.{tokenWords, errorWords}
 use Rattle.records.specs.Rows.{Rows, none, more}
 use Rattle.records.proofs.Room.{room-length, lt-or-le}
@@ -20,11 +20,11 @@ use Rattle.lexer.specs.Lex.{Result, lexed, lexedOf}
 use Rattle.lexing.specs.Kept.{Good, Placed, Ending, whole, short}
 use Rattle.lexing.proofs.Kept.{lexed-keeps}
 use Rattle.lexing.proofs.Answer.{entry, errors-within}
-use Rattle.parser.specs.Tokens.{startAt}
+use Rattle.parser.specs.Tokens.{startAt, walked}
 use Rattle.parsing.proofs.Frame.{parsed-errors-kept}
 use Rattle.parsing.proofs.Places.{parsed-about}
 use Rattle.entry.specs.Ways.{onWay}
-use Rattle.entry.specs.Entry.{over, nodesAfter, enteredAfter}
+use Rattle.entry.specs.Entry.{over, nodesAfter, withRoom, enteredAfter}
 use Rattle.entry.specs.Reading.{Reading, readBy, readAfter, reading}
 use Rattle.whole.specs.Places.{Place, lexers, parsers}
 use Rattle.whole.proofs.Rooms.{lexed-rooms}
@@ -75,10 +75,10 @@ start-inside n m ws t rows i h =
     (lt-or-le i (room tokenWidth (over ws t)))
 
 -- ---- what a lexing came to is parsed, or is the answer
-module _ (rule way : ℕ) (s t e n : List ℕ) where
-  -- what a lexing comes to on the way
+module _ (rule way : ℕ) (s t e n x : List ℕ) where
+  -- what a lexing comes to on the way, with the index
   abbrev d : Result
-  d = onWay way (lexedOf rule s (room tokenWidth t) (room errorWidth e))
+  d = withRoom (room indexWidth x) (onWay way (lexedOf rule s (room tokenWidth t) (room errorWidth e)))
 
   abbrev T : List ℕ
   T = over (d .tokens) t
@@ -90,16 +90,16 @@ module _ (rule way : ℕ) (s t e n : List ℕ) where
   N = nodesAfter (d .outcome) n
 
   w : Well d
-  w = well-on rule way s (room tokenWidth t) (room errorWidth e)
+  w = well-on rule way (room indexWidth x) s (room tokenWidth t) (room errorWidth e)
 
   i : Inside (length s) (lexedOf rule s (room tokenWidth t) (room errorWidth e))
   i = inside rule s (room tokenWidth t) (room errorWidth e)
 
   -- an error of lexing, in any error table that keeps those
   lexing-place : (r : Reading) (k : ℕ) → k < d .errorCount → k < room errorWidth E → ((j : ℕ) → j < 3 → field errorWidth j (r .errors) k ≡ field errorWidth j E k) → Place (length s) r k
-  lexing-place r k h x g =
+  lexing-place r k h l g =
       let y = row-at errorWords (Placed (length s)) errorWidth (λ c. refl) (d .errors) (d .errorCount) (i .errors) k h in
-      let word : (j : ℕ) → j < 3 → field errorWidth j (r .errors) k ≡ getD (errorWords (y .0)) j 0 = λ j b. g j b ∙ front-word errorWidth (d .errors) e (d .errorCount) k j (w .errors-long) (omega arith) x ∙ y .2 j b in
+      let word : (j : ℕ) → j < 3 → field errorWidth j (r .errors) k ≡ getD (errorWords (y .0)) j 0 = λ j b. g j b ∙ front-word errorWidth (d .errors) e (d .errorCount) k j (w .errors-long) (omega arith) l ∙ y .2 j b in
       let message : field errorWidth 0 (r .errors) k ≡ y .0 .message = word 0 (omega arith) in
       let pos : field errorWidth 2 (r .errors) k ≡ y .0 .pos = word 2 (omega arith) in
       let a = y .1 .message-from in
@@ -114,15 +114,15 @@ module _ (rule way : ℕ) (s t e n : List ℕ) where
       let q : room errorWidth E ≡ room errorWidth e = room-length errorWidth E e (over-keeps (d .errors) e (errors-within rule s e (room tokenWidth t))) in
       omega (arith, h, r, q)
 
-  place : (k : ℕ) → k < readAfter rule (enteredAfter d t e n) .errorCount → Place (length s) (readAfter rule (enteredAfter d t e n)) k
+  place : (k : ℕ) → k < readAfter rule (enteredAfter d t e n x) .errorCount → Place (length s) (readAfter rule (enteredAfter d t e n x)) k
   place = at (eqb (d .outcome) 0) refl
     where
       r : Bool → Reading
-      r x = readBy x rule (enteredAfter d t e n)
+      r b = readBy b rule (enteredAfter d t e n x)
 
-      at : (x : Bool) → eqb (d .outcome) 0 ≡ x → (k : ℕ) → k < r x .errorCount → Place (length s) (r x) k
+      at : (b : Bool) → eqb (d .outcome) 0 ≡ b → (k : ℕ) → k < r b .errorCount → Place (length s) (r b) k
       at true o k h =
-          let p = parsed-errors-kept rule T (d .errorCount) E N in
+          let p = parsed-errors-kept rule (walked T) (d .errorCount) E N in
           let z = w .eof (eqb-true (d .outcome) 0 o) in
           let m = z .0 in
           let l : length (d .tokens) ≡ tokenWidth * (m + 1) = w .tokens-long ∙ ap (λ (c : ℕ). tokenWidth * c) (z .1) in
@@ -144,13 +144,13 @@ module _ (rule way : ℕ) (s t e n : List ℕ) where
       at false o k h = lexing-place (r false) k h (lexing-room k h) λ j c. refl
 
 -- every error that a reading keeps has its place
-pub reading-places : (rule way : ℕ) (s t e n : List ℕ) (k : ℕ) → k < reading rule way s t e n .errorCount → Place (length s) (reading rule way s t e n) k
+pub reading-places : (rule way : ℕ) (s t e n x : List ℕ) (k : ℕ) → k < reading rule way s t e n x .errorCount → Place (length s) (reading rule way s t e n x) k
 unfolding reading
-reading-places rule way s t e n k h = place rule way s t e n k h
+reading-places rule way s t e n x k h = place rule way s t e n x k h
 
 -- so that its pos is at most the source's length
-pub reading-inside : (rule way : ℕ) (s t e n : List ℕ) (k : ℕ) → k < reading rule way s t e n .errorCount → field errorWidth 2 (reading rule way s t e n .errors) k ≤ length s
-reading-inside rule way s t e n k h = of (reading rule way s t e n) (reading-places rule way s t e n k h)
+pub reading-inside : (rule way : ℕ) (s t e n x : List ℕ) (k : ℕ) → k < reading rule way s t e n x .errorCount → field errorWidth 2 (reading rule way s t e n x .errors) k ≤ length s
+reading-inside rule way s t e n x k h = of (reading rule way s t e n x) (reading-places rule way s t e n x k h)
   where
     of : (r : Reading) → Place (length s) r k → field errorWidth 2 (r .errors) k ≤ length s
     of r (lexers x) = let b = x .inside in omega arith

@@ -15,6 +15,7 @@ pub record Stops (way : ℕ) (d : Result) : Type 0 where
   pub lexed : d .outcome ≡ ended
   pub wrong : 0 < d .errorCount
 
--- what it comes to then, in tables t, e and n: tokens and errors are kept as lexing left them, no node is, and every word of the node table is 0
-abbrev pub unparsed : Result → List ℕ → List ℕ → List ℕ → Reading
-unparsed d t e n = record { outcome = notParsed; tokenCount = d .tokenCount; errorCount = d .errorCount; nodeCount = 0; first = 0; tokens = over (d .tokens) t; errors = over (d .errors) e; nodes = zeroed nodeWidth n 0 }
+-- what it comes to then, in tables t, e and n with the index x: tokens and errors are kept as lexing left them, no node is, no look is made, every word of the node table is 0, and the index is as
+-- it was
+abbrev pub unparsed : Result → List ℕ → List ℕ → List ℕ → List ℕ → Reading
+unparsed d t e n x = record { outcome = notParsed; tokenCount = d .tokenCount; errorCount = d .errorCount; nodeCount = 0; first = 0; looks = 0; tokens = over (d .tokens) t; errors = over (d .errors) e; nodes = zeroed nodeWidth n 0; index = x }

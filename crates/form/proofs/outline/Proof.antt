@@ -26,6 +26,9 @@ slice-aggregate-read-2 c = search needs
 slice-aggregate-read-3 : tie.Need-slice-aggregate-read-3
 slice-aggregate-read-3 c = search needs
 
+slice-aggregate-read-4 : tie.Need-slice-aggregate-read-4
+slice-aggregate-read-4 c = search needs
+
 read-requires : tie.Need-read-requires
 read-requires c κs = search needs
 
@@ -46,23 +49,8 @@ same-length-2 c = search needs
 
 returns-2 : tie.Need-returns-2
 returns-2 c =
-    let h = outline-read (c .before .before .before .before .before .before .before .before .before .before .before .before .before .before .before .before .before .args .source .now) _ _ _ _ _ _ _ (c .before .before .before .before .before .before .before .before .before .before .before .before .before .before .if1 .left) (c .before .before .before .before .before .before .before .before .before .before .read .ensures) (c .before .before .reading .ensures) in
+    let h = outline-read (c .before .before .before .before .before .before .before .before .before .before .before .before .before .before .before .before .before .before .before .args .source .now) _ _ _ _ _ _ _ _ (c .before .before .before .before .before .before .before .before .before .before .before .before .before .before .before .before .if1 .left) (c .before .before .before .before .before .before .before .before .before .before .before .read .ensures) (c .before .before .reading .ensures _) in
     (h, holds-counts _ _ _ _ h)
 
 pub outline-spec : {M : Type 1} → statement M
-outline-spec =
-    tie.close
-    (tie.spec
-    head-requires
-    same-length
-    returns
-    slice-aggregate-read
-    slice-aggregate-read-2
-    slice-aggregate-read-3
-    read-requires
-    slice-aggregate-reading
-    slice-aggregate-reading-2
-    slice-aggregate-reading-3
-    reading-requires
-    same-length-2
-    returns-2)
+outline-spec = tie.close (tie.spec head-requires same-length returns slice-aggregate-read slice-aggregate-read-2 slice-aggregate-read-3 slice-aggregate-read-4 read-requires slice-aggregate-reading slice-aggregate-reading-2 slice-aggregate-reading-3 reading-requires same-length-2 returns-2)

@@ -31,9 +31,9 @@ same-length : tie.Need-same-length
 same-length c = search needs
 
 returns : tie.Need-returns
-returns c =
+returns c = λ X.
     let a = c .before .before .before .before .before .before .before .before .before .before .before .before .before .before .before .before .before .before .before .before .before .before .before .args in
-    text-is (a .r) (a .tokens .now) (a .errors .now) (a .nodes .now) _ _ _
+    text-is (a .r) (a .tokens .now) (a .errors .now) (a .nodes .now) X _ _ _
     (c .before .before .lines3 .ensures _ _
     (c .before .before .before .before .before .before .before .lines2 .ensures _ _
     (c .before .before .before .before .before .before .before .before .before .before .before .before .lines .ensures _ _

@@ -1,6 +1,6 @@
 -- Made by tools/remake function operators turn_at from tools/ans/operators/turn_at.txt: `operators::turn_at` meets its contract. Assumes nothing.
-use mathlib.Core.Path.{sym, _∙_}
-use Rattle.operators.proofs.Operators.{turn-by, over-looser, over-tighter, takes}
+use mathlib.Core.Path.{_∙_}
+use Rattle.operators.proofs.Operators.{turn-by, over, takes}
 use borrow.Author.Needs.{needs}
 use Rattle.operators.proofs.turn_at.Statement.{statement}
 use Rattle.operators.proofs.turn_at.Tie as tie
@@ -11,14 +11,37 @@ peek-requires c κs = search needs
 rank-of-requires : tie.Need-rank-of-requires
 rank-of-requires c κs = search needs
 
+tests-of-requires : tie.Need-tests-of-requires
+tests-of-requires c κs = search needs
+
+behind-of-requires : tie.Need-behind-of-requires
+behind-of-requires c κs = search needs
+
+without-requires : tie.Need-without-requires
+without-requires c κs = search needs
+
 returns : tie.Need-returns
-returns c = sym (turn-by _ _ _ _ _ _ (c .before .before .peek .ensures) (c .before .rank-of .ensures) ∙ over-looser _ _ _ _ (c .if1 .taken))
+returns c = takes _ _ _ _ _ _ _ (c .before .before .before .tests-of .ensures) _ (c .before .behind-of .ensures) (c .before .before .if1 .taken) (c .without .ensures) ∙ turn-by _ _ _ _ _ _ (c .before .before .before .before .before .peek .ensures) (c .before .before .before .before .rank-of .ensures)
+
+tests-of-requires-2 : tie.Need-tests-of-requires-2
+tests-of-requires-2 c κs = search needs
+
+without-requires-2 : tie.Need-without-requires-2
+without-requires-2 c κs = search needs
 
 returns-2 : tie.Need-returns-2
-returns-2 c = sym (turn-by _ _ _ _ _ _ (c .before .before .before .peek .ensures) (c .before .before .rank-of .ensures) ∙ over-tighter _ _ _ _ (c .before .if1 .left) (c .if2 .taken))
-
-returns-3 : tie.Need-returns-3
-returns-3 c = sym (turn-by _ _ _ _ _ _ (c .before .before .before .peek .ensures) (c .before .before .rank-of .ensures) ∙ takes _ _ _ _ (c .before .if1 .left) (c .if2 .left))
+returns-2 c = over _ _ _ _ _ _ _ (c .before .before .before .tests-of .ensures) _ (c .before .tests-of2 .ensures) (c .before .before .if1 .left) (c .without2 .ensures) ∙ turn-by _ _ _ _ _ _ (c .before .before .before .before .before .peek .ensures) (c .before .before .before .before .rank-of .ensures)
 
 pub turn-at-spec : {M : Type 1} → statement M
-turn-at-spec = tie.close (tie.spec peek-requires rank-of-requires returns returns-2 returns-3)
+turn-at-spec =
+    tie.close
+    (tie.spec
+    peek-requires
+    rank-of-requires
+    tests-of-requires
+    behind-of-requires
+    without-requires
+    returns
+    tests-of-requires-2
+    without-requires-2
+    returns-2)

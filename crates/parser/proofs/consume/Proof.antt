@@ -1,5 +1,6 @@
 -- `parser::consume` meets its contract. Assumes nothing.
 use Rattle.parser.proofs.Write.{consume-found, consume-missing}
+use Rattle.parser.specs.Tokens.{indexed}
 use borrow.Author.Needs.{needs}
 use Rattle.parser.proofs.consume.Statement.{statement}
 use Rattle.parser.proofs.consume.Tie as tie
@@ -19,21 +20,24 @@ gives-requires c κs = search needs
 enum-told : tie.Need-enum-told
 enum-told c = search needs
 
+looked-requires : tie.Need-looked-requires
+looked-requires c κs = search needs
+
 set-error-requires : tie.Need-set-error-requires
 set-error-requires c κs = search needs
 
 returns : tie.Need-returns
 returns c = λ N.
-    let a = c .before .before .before .before .before .before .before .before .args in
-    consume-found (a .tokens .now) (a .kind) (a .message) (a .p) _ (c .before .before .before .before .before .matches .ensures) (c .before .before .before .i .given .0 .0) _ N (c .gives .result) _ (c .before .before .before .i .given .1) (c .before .at-token .ensures) (c .gives .ensures)
+    let a = c .before .before .before .before .before .before .before .before .before .args in
+    consume-found (indexed (a .tokens .now) (a .index .now)) (a .kind) (a .message) (a .p) _ (c .before .before .before .before .before .matches .ensures) (c .before .before .before .i .given .0 .0) _ N (c .gives .result) _ (c .before .before .before .i .given .1) (c .before .at-token .ensures) (c .gives .ensures)
 
 same-length : tie.Need-same-length
 same-length c = search needs
 
 returns-2 : tie.Need-returns-2
 returns-2 c = λ N.
-    let a = c .before .before .before .before .before .before .before .before .before .args in
-    consume-missing (a .tokens .now) (a .kind) (a .message) (a .p) _ (c .before .before .before .before .before .before .matches .ensures) (a .errors .now) N _ (c .before .before .before .before .enum-told .given .1) (c .before .before .set-error .ensures N)
+    let a = c .before .before .before .before .before .before .before .before .before .before .before .args in
+    consume-missing (indexed (a .tokens .now) (a .index .now)) (a .kind) (a .message) (a .p) _ (c .before .before .before .before .before .before .before .matches .ensures) (a .errors .now) N _ _ (c .before .before .before .before .before .enum-told .given .1) (c .before .before .before .looked .ensures) (c .before .before .set-error .ensures N)
 
 pub consume-spec : {M : Type 1} → statement M
 consume-spec =
@@ -44,6 +48,7 @@ consume-spec =
     at-token-requires
     gives-requires
     enum-told
+    looked-requires
     set-error-requires
     returns
     same-length

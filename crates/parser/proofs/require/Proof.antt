@@ -1,5 +1,6 @@
 -- `parser::require` meets its contract. Assumes nothing.
 use Rattle.parser.proofs.Write.{require-found, require-full, require-stops}
+use Rattle.parser.specs.Tokens.{indexed}
 use borrow.Author.Needs.{needs}
 use Rattle.parser.proofs.require.Statement.{statement}
 use Rattle.parser.proofs.require.Tie as tie
@@ -19,6 +20,9 @@ gives-requires c κs = search needs
 enum-told : tie.Need-enum-told
 enum-told c = search needs
 
+looked-requires : tie.Need-looked-requires
+looked-requires c κs = search needs
+
 set-error-requires : tie.Need-set-error-requires
 set-error-requires c κs = search needs
 
@@ -33,26 +37,26 @@ same-length c = search needs
 
 returns : tie.Need-returns
 returns c = λ N.
-    let a = c .before .before .before .before .before .before .before .before .before .before .before .args in
+    let a = c .before .before .before .before .before .before .before .before .before .before .before .before .before .args in
     let g = c .before .before .before .before .set-error in
-    require-full (a .tokens .now) (a .kind) (a .message) (a .p) _ (c .before .before .before .before .before .before .before .before .matches .ensures) (a .errors .now) _ N (g .result) (c .before .before .before .before .before .before .enum-told .given .1) (g .ensures N) _ (c .enum-told3 .given .1)
+    require-full (indexed (a .tokens .now) (a .index .now)) (a .kind) (a .message) (a .p) _ (c .before .before .before .before .before .before .before .before .before .matches .ensures) (a .errors .now) _ N (g .result) _ (c .before .before .before .before .before .before .before .enum-told .given .1) (c .before .before .before .before .before .looked .ensures) (g .ensures N) _ (c .enum-told3 .given .1)
 
 stopped-requires : tie.Need-stopped-requires
 stopped-requires c κs = search needs
 
 returns-2 : tie.Need-returns-2
 returns-2 c = λ N.
-    let a = c .before .before .before .before .before .before .before .before .args in
-    require-found (a .tokens .now) (a .kind) (a .message) (a .p) _ (c .before .before .before .before .before .matches .ensures) (c .before .before .before .i .given .0 .0) _ N (c .gives .result) _ (c .before .before .before .i .given .1) (c .before .at-token .ensures) (c .gives .ensures)
+    let a = c .before .before .before .before .before .before .before .before .before .args in
+    require-found (indexed (a .tokens .now) (a .index .now)) (a .kind) (a .message) (a .p) _ (c .before .before .before .before .before .matches .ensures) (c .before .before .before .i .given .0 .0) _ N (c .gives .result) _ (c .before .before .before .i .given .1) (c .before .at-token .ensures) (c .gives .ensures)
 
 same-length-2 : tie.Need-same-length-2
 same-length-2 c = search needs
 
 returns-3 : tie.Need-returns-3
 returns-3 c = λ N.
-    let a = c .before .before .before .before .before .before .before .before .before .before .before .before .before .args in
+    let a = c .before .before .before .before .before .before .before .before .before .before .before .before .before .before .before .args in
     let g = c .before .before .before .before .before .before .set-error in
-    require-stops (a .tokens .now) (a .kind) (a .message) (a .p) _ (c .before .before .before .before .before .before .before .before .before .before .matches .ensures) (a .errors .now) _ N (g .result) (c .before .before .before .before .before .before .before .before .enum-told .given .1) (g .ensures N) _ (c .stopped .result) (c .before .before .enum-told2 .given .1) (c .stopped .ensures)
+    require-stops (indexed (a .tokens .now) (a .index .now)) (a .kind) (a .message) (a .p) _ (c .before .before .before .before .before .before .before .before .before .before .before .matches .ensures) (a .errors .now) _ N (g .result) _ (c .before .before .before .before .before .before .before .before .before .enum-told .given .1) (c .before .before .before .before .before .before .before .looked .ensures) (g .ensures N) _ (c .stopped .result) (c .before .before .enum-told2 .given .1) (c .stopped .ensures)
 
 pub require-spec : {M : Type 1} → statement M
 require-spec =
@@ -63,6 +67,7 @@ require-spec =
     at-token-requires
     gives-requires
     enum-told
+    looked-requires
     set-error-requires
     enum-told-2
     enum-told-3

@@ -1,40 +1,27 @@
--- `parser::skip` meets its contract: passing a Newline changes nothing. Assumes nothing.
-use mathlib.Core.Path.{_≡_, refl, sym, _∙_}
-use Prim.Native.Nat.{_-_}
-use native.Mathlib.Omega.{arith}
-use Rattle.parser.specs.Tokens.{count, kindAt, skipLines}
-use Rattle.parser.proofs.Look.{kind-inside, skip-more, skip-end}
+-- `parser::skip` meets its contract. Assumes nothing.
+use mathlib.Core.Path.{sym, _∙_}
+use borrow.Author.Needs.{needs}
+use Rattle.parser.proofs.Look.{skip-end, skip-word, skip-stays}
 use Rattle.parser.proofs.skip.Statement.{statement}
 use Rattle.parser.proofs.skip.Tie as tie
 
-abbrev Inv-loop : tie.InvT-loop
-Inv-loop tokens start i₀ i = skipLines tokens i ≡ skipLines tokens start
+kind-at-requires : tie.Need-kind-at-requires
+kind-at-requires c κs = search needs
 
-abbrev μ-loop : tie.MeasureT-loop
-μ-loop tokens start i₀ i = count tokens - i
+index-word-requires : tie.Need-index-word-requires
+index-word-requires c κs = search needs
 
-loop-holds : tie.Need-loop-holds Inv-loop μ-loop
-loop-holds c = refl
+sub-result : tie.Need-sub-result
+sub-result c = search needs
 
-kind-at-requires : tie.Need-kind-at-requires Inv-loop μ-loop
-kind-at-requires c κs = tt
+returns : tie.Need-returns
+returns c = skip-word _ _ _ _ (sym (c .before .before .before .kind-at .ensures) ∙ c .before .before .if1 .taken) (c .before .index-word .ensures) (c .if2 .taken)
 
-newline : (c : tie.Then1 Inv-loop μ-loop) → kindAt (c .before .before .before .before .args .tokens .now) (c .before .before .loop .i) ≡ 1
-newline c = sym (c .before .kind-at .ensures) ∙ c .if1 .taken
+returns-2 : tie.Need-returns-2
+returns-2 c = skip-stays _ _ _ _ (sym (c .before .before .before .kind-at .ensures) ∙ c .before .before .if1 .taken) (c .before .index-word .ensures) (c .if2 .left)
 
-add-i : tie.Need-add-i Inv-loop μ-loop
-add-i c = let h = kind-inside _ _ 0 (newline c) in omega arith
-
-loop-less : tie.Need-loop-less Inv-loop μ-loop
-loop-less c = let h = kind-inside _ _ 0 (newline c) in omega arith
-
-loop-again : tie.Need-loop-again Inv-loop μ-loop
-loop-again c = skip-more _ _ (newline c) ∙ c .before .before .loop .inv
-
-returns : tie.Need-returns Inv-loop μ-loop
-returns c = skip-end _ _ (λ e. c .if1 .left (c .before .kind-at .ensures ∙ e)) ∙ c .before .before .loop .inv
+returns-3 : tie.Need-returns-3
+returns-3 c = skip-end _ _ (λ e. c .if1 .left (c .before .kind-at .ensures ∙ e))
 
 pub skip-spec : {M : Type 1} → statement M
-skip-spec =
-    tie.close
-    (tie.spec Inv-loop μ-loop loop-holds kind-at-requires add-i loop-less loop-again returns)
+skip-spec = tie.close (tie.spec kind-at-requires index-word-requires sub-result returns returns-2 returns-3)

@@ -45,28 +45,28 @@ same-length c = search needs
 
 returns : tie.Need-returns
 unfolding run
-returns c = λ low. rw (c .before .before .before .before .before .before .f .given .1, ← c .before .before .before .row .ensures, ← c .before .before .make .ensures (c .before .before .before .before .before .before .before .before .before .before .before .args .errors .now))
+returns c = λ low I. rw (c .before .before .before .before .before .before .f .given .1, ← c .before .before .before .row .ensures, ← c .before .before .make .ensures (c .before .before .before .before .before .before .before .before .before .before .before .args .errors .now))
 
 same-length-2 : tie.Need-same-length-2
 same-length-2 c = search needs
 
 returns-2 : tie.Need-returns-2
 unfolding run
-returns-2 c = λ low. rw (c .before .before .before .before .before .before .f2 .given .1, ← c .before .before .before .row2 .ensures, ← c .before .before .make2 .ensures (c .before .before .before .before .before .before .before .before .before .before .before .args .errors .now))
+returns-2 c = λ low I. rw (c .before .before .before .before .before .before .f2 .given .1, ← c .before .before .before .row2 .ensures, ← c .before .before .make2 .ensures (c .before .before .before .before .before .before .before .before .before .before .before .args .errors .now))
 
 same-length-3 : tie.Need-same-length-3
 same-length-3 c = search needs
 
 returns-3 : tie.Need-returns-3
 unfolding run
-returns-3 c = λ low. rw (c .before .before .before .before .before .enum-told .given .1, ← c .before .before .before .before2 .ensures, ← c .before .before .fatal .ensures (c .before .before .before .before .before .before .before .before .before .before .args .nodes .now))
+returns-3 c = λ low I. rw (c .before .before .before .before .before .enum-told .given .1, ← c .before .before .before .before2 .ensures, ← c .before .before .fatal .ensures (c .before .before .before .before .before .before .before .before .before .before .args .nodes .now))
 
 same-length-4 : tie.Need-same-length-4
 same-length-4 c = search needs
 
 returns-4 : tie.Need-returns-4
 unfolding run
-returns-4 c = λ low. rw (c .before .before .before .before .before .enum-told2 .given .1, ← c .before .before .before .before3 .ensures, ← c .before .before .fatal2 .ensures (c .before .before .before .before .before .before .before .before .before .before .args .nodes .now))
+returns-4 c = λ low I. rw (c .before .before .before .before .before .enum-told2 .given .1, ← c .before .before .before .before3 .ensures, ← c .before .before .fatal2 .ensures (c .before .before .before .before .before .before .before .before .before .before .args .nodes .now))
 
 pub assigned-spec : {M : Type 1} → statement M
 assigned-spec =

@@ -19,7 +19,7 @@ same-length c = search needs
 
 returns : tie.Need-returns
 unfolding run closed
-returns c = λ low. rw (← c .before .before .before .before .consume .ensures (c .before .before .before .before .before .before .before .before .before .args .nodes .now), c .enum-told2 .given .1)
+returns c = λ low. rw (← c .before .before .before .before .consume .ensures (c .before .before .before .before .before .before .before .before .before .before .args .nodes .now), c .enum-told2 .given .1)
 
 row-requires : tie.Need-row-requires
 row-requires c κs = search needs
@@ -41,7 +41,7 @@ same-length-3 c = search needs
 
 returns-2 : tie.Need-returns-2
 unfolding run closed
-returns-2 c = λ low. rw (← c .before .before .before .before .before .before .before .before .before .before .before .before .consume .ensures (c .before .before .before .before .before .before .before .before .before .before .before .before .before .before .before .before .before .args .nodes .now), c .before .before .before .before .before .before .before .before .enum-told .given .1, ← c .before .before .before .before .before .row .ensures) (rw (← c .before .before .before .before .make .ensures (c .before .before .before .before .before .before .before .before .before .before .before .before .consume .last .1 .0), c .enum-told3 .given .1))
+returns-2 c = λ low. rw (← c .before .before .before .before .before .before .before .before .before .before .before .before .consume .ensures (c .before .before .before .before .before .before .before .before .before .before .before .before .before .before .before .before .before .before .args .nodes .now), c .before .before .before .before .before .before .before .before .enum-told .given .1, ← c .before .before .before .before .before .row .ensures) (rw (← c .before .before .before .before .make .ensures (c .before .before .before .before .before .before .before .before .before .before .before .before .consume .last .1 .0), c .enum-told3 .given .1))
 
 form-through-requires : tie.Need-form-through-requires
 form-through-requires c κs = search needs
@@ -57,7 +57,7 @@ same-length-5 c = search needs
 
 returns-3 : tie.Need-returns-3
 unfolding run closed
-returns-3 c = λ low. rw (← c .before .before .before .before .before .before .before .before .before .before .before .before .before .before .before .before .consume .ensures (c .before .before .before .before .before .before .before .before .before .before .before .before .before .before .before .before .before .before .before .before .before .args .nodes .now), c .before .before .before .before .before .before .before .before .before .before .before .before .enum-told .given .1, ← c .before .before .before .before .before .before .before .before .before .row .ensures) (rw (← c .before .before .before .before .before .before .before .before .make .ensures (c .before .before .before .before .before .before .before .before .before .before .before .before .before .before .before .before .consume .last .1 .0), c .before .before .before .before .k .given .1, ← c .before .form-through .ensures) (rw (c .gives-form .ensures)))
+returns-3 c = λ low. rw (← c .before .before .before .before .before .before .before .before .before .before .before .before .before .before .before .before .consume .ensures (c .before .before .before .before .before .before .before .before .before .before .before .before .before .before .before .before .before .before .before .before .before .before .args .nodes .now), c .before .before .before .before .before .before .before .before .before .before .before .before .enum-told .given .1, ← c .before .before .before .before .before .before .before .before .before .row .ensures) (rw (← c .before .before .before .before .before .before .before .before .make .ensures (c .before .before .before .before .before .before .before .before .before .before .before .before .before .before .before .before .consume .last .1 .0), c .before .before .before .before .k .given .1, ← c .before .form-through .ensures) (rw (c .gives-form .ensures)))
 
 pub close-access-spec : {M : Type 1} → statement M
 close-access-spec =

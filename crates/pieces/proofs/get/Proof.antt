@@ -18,7 +18,7 @@ same-length c = search needs
 
 returns : tie.Need-returns
 unfolding run
-returns c = λ low. rw (← c .before .before .before .before .require .ensures (c .before .before .before .before .before .before .before .before .before .args .nodes .now), c .enum-told .given .1)
+returns c = λ low. rw (← c .before .before .before .before .require .ensures (c .before .before .before .before .before .before .before .before .before .before .args .nodes .now), c .enum-told .given .1)
 
 row-requires : tie.Need-row-requires
 row-requires c κs = search needs
@@ -40,7 +40,7 @@ same-length-3 c = search needs
 
 returns-2 : tie.Need-returns-2
 unfolding run
-returns-2 c = λ low. rw (← c .before .before .before .before .before .before .before .before .before .before .before .before .before .require .ensures (c .before .before .before .before .before .before .before .before .before .before .before .before .before .before .before .before .before .before .args .nodes .now), c .before .before .before .before .before .before .before .before .before .k .given .1, ← c .before .before .before .before .before .row .ensures) (rw (← c .before .before .before .before .make .ensures (c .before .before .before .before .before .before .before .before .before .before .before .before .before .require .last .1 .0), c .enum-told2 .given .1))
+returns-2 c = λ low. rw (← c .before .before .before .before .before .before .before .before .before .before .before .before .before .require .ensures (c .before .before .before .before .before .before .before .before .before .before .before .before .before .before .before .before .before .before .before .args .nodes .now), c .before .before .before .before .before .before .before .before .before .k .given .1, ← c .before .before .before .before .before .row .ensures) (rw (← c .before .before .before .before .make .ensures (c .before .before .before .before .before .before .before .before .before .before .before .before .before .require .last .1 .0), c .enum-told2 .given .1))
 
 gives-form-requires : tie.Need-gives-form-requires
 gives-form-requires c κs = search needs
@@ -53,7 +53,7 @@ same-length-5 c = search needs
 
 returns-3 : tie.Need-returns-3
 unfolding run
-returns-3 c = λ low. rw (← c .before .before .before .before .before .before .before .before .before .before .before .before .before .before .before .before .require .ensures (c .before .before .before .before .before .before .before .before .before .before .before .before .before .before .before .before .before .before .before .before .before .args .nodes .now), c .before .before .before .before .before .before .before .before .before .before .before .before .k .given .1, ← c .before .before .before .before .before .before .before .before .row .ensures) (rw (← c .before .before .before .before .before .before .before .make .ensures (c .before .before .before .before .before .before .before .before .before .before .before .before .before .before .before .before .require .last .1 .0), c .before .before .before .k2 .given .1, c .gives-form .ensures))
+returns-3 c = λ low. rw (← c .before .before .before .before .before .before .before .before .before .before .before .before .before .before .before .before .require .ensures (c .before .before .before .before .before .before .before .before .before .before .before .before .before .before .before .before .before .before .before .before .before .before .args .nodes .now), c .before .before .before .before .before .before .before .before .before .before .before .before .k .given .1, ← c .before .before .before .before .before .before .before .before .row .ensures) (rw (← c .before .before .before .before .before .before .before .make .ensures (c .before .before .before .before .before .before .before .before .before .before .before .before .before .before .before .before .require .last .1 .0), c .before .before .before .k2 .given .1, c .gives-form .ensures))
 
 pub get-spec : {M : Type 1} → statement M
 get-spec =

@@ -12,6 +12,9 @@ enum-told c = search needs
 returns : tie.Need-returns
 returns c = λ E. rw (c .enum-told .given .1)
 
+looked-requires : tie.Need-looked-requires
+looked-requires c κs = search needs
+
 row-requires : tie.Need-row-requires
 row-requires c κs = search needs
 
@@ -22,9 +25,17 @@ same-length : tie.Need-same-length
 same-length c = search needs
 
 returns-2 : tie.Need-returns-2
-returns-2 c = λ E. rw (c .before .before .before .before .before .before .before .k .given .1, ← c .before .before .before .row .ensures, ← c .before .before .make .ensures (E))
+returns-2 c = λ E. rw (c .before .before .before .before .before .before .before .before .k .given .1, ← c .before .before .before .before .looked .ensures, ← c .before .before .before .row .ensures) (rw (← c .before .before .make .ensures (E)))
 
 pub if-node-spec : {M : Type 1} → statement M
 if-node-spec =
     tie.close
-    (tie.spec enum-known-k enum-told returns row-requires make-requires same-length returns-2)
+    (tie.spec
+    enum-known-k
+    enum-told
+    returns
+    looked-requires
+    row-requires
+    make-requires
+    same-length
+    returns-2)

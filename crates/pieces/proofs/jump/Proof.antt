@@ -30,7 +30,7 @@ same-length c = search needs
 
 returns : tie.Need-returns
 unfolding run
-returns c = λ low. let h : eqb (c .before .before .before .before .before .before .before .before .before .before .args .p .loops) 0 ≡ false = inside _ _ (c .before .before .before .before .before .before .inside-loop .ensures) (c .before .before .before .before .before .if1 .taken) in rw (h, ← c .before .before .before .row .ensures, ← c .before .before .make .ensures (c .before .before .before .before .before .before .before .before .before .before .args .errors .now))
+returns c = λ low I. let h : eqb (c .before .before .before .before .before .before .before .before .before .before .args .p .loops) 0 ≡ false = inside _ _ (c .before .before .before .before .before .before .inside-loop .ensures) (c .before .before .before .before .before .if1 .taken) in rw (h, ← c .before .before .before .row .ensures, ← c .before .before .make .ensures (c .before .before .before .before .before .before .before .before .before .before .args .errors .now))
 
 before-requires : tie.Need-before-requires
 before-requires c κs = search needs
@@ -49,7 +49,7 @@ same-length-2 c = search needs
 
 returns-2 : tie.Need-returns-2
 unfolding run
-returns-2 c = λ low. let h : eqb (c .before .before .before .before .before .before .before .before .before .before .before .before .args .p .loops) 0 ≡ true = outside _ _ (c .before .before .before .before .before .before .before .before .inside-loop .ensures) (c .before .before .before .before .before .before .before .if1 .left) in rw (h, ← c .before .before .before .before .before .before2 .ensures, ← c .before .before .before .before .set-error .ensures (c .before .before .before .before .before .before .before .before .before .before .before .before .args .nodes .now)) (rw (c .enum-told2 .given .1))
+returns-2 c = λ low I. let h : eqb (c .before .before .before .before .before .before .before .before .before .before .before .before .args .p .loops) 0 ≡ true = outside _ _ (c .before .before .before .before .before .before .before .before .inside-loop .ensures) (c .before .before .before .before .before .before .before .if1 .left) in rw (h, ← c .before .before .before .before .before .before2 .ensures, ← c .before .before .before .before .set-error .ensures (c .before .before .before .before .before .before .before .before .before .before .before .before .args .nodes .now)) (rw (c .enum-told2 .given .1))
 
 row-requires-2 : tie.Need-row-requires-2
 row-requires-2 c κs = search needs
@@ -65,7 +65,7 @@ same-length-4 c = search needs
 
 returns-3 : tie.Need-returns-3
 unfolding run
-returns-3 c = λ low. let h : eqb (c .before .before .before .before .before .before .before .before .before .before .before .before .before .before .before .before .before .before .args .p .loops) 0 ≡ true = outside _ _ (c .before .before .before .before .before .before .before .before .before .before .before .before .before .before .inside-loop .ensures) (c .before .before .before .before .before .before .before .before .before .before .before .before .before .if1 .left) in rw (h, ← c .before .before .before .before .before .before .before .before .before .before .before .before2 .ensures, ← c .before .before .before .before .before .before .before .before .before .before .set-error .ensures (c .before .before .before .before .before .before .before .before .before .before .before .before .before .before .before .before .before .before .args .nodes .now)) (rw (c .before .before .before .before .before .before .enum-told .given .1, ← c .before .before .before .row2 .ensures, ← c .before .before .make2 .ensures (c .before .before .before .before .before .before .before .before .before .before .set-error .last .1 .0)))
+returns-3 c = λ low I. let h : eqb (c .before .before .before .before .before .before .before .before .before .before .before .before .before .before .before .before .before .before .args .p .loops) 0 ≡ true = outside _ _ (c .before .before .before .before .before .before .before .before .before .before .before .before .before .before .inside-loop .ensures) (c .before .before .before .before .before .before .before .before .before .before .before .before .before .if1 .left) in rw (h, ← c .before .before .before .before .before .before .before .before .before .before .before .before2 .ensures, ← c .before .before .before .before .before .before .before .before .before .before .set-error .ensures (c .before .before .before .before .before .before .before .before .before .before .before .before .before .before .before .before .before .before .args .nodes .now)) (rw (c .before .before .before .before .before .before .enum-told .given .1, ← c .before .before .before .row2 .ensures, ← c .before .before .make2 .ensures (c .before .before .before .before .before .before .before .before .before .before .set-error .last .1 .0)))
 
 pub jump-spec : {M : Type 1} → statement M
 jump-spec =

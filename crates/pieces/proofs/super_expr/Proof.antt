@@ -26,10 +26,13 @@ same-length c = search needs
 
 returns : tie.Need-returns
 unfolding run superExpr
-returns c = λ low. rw (← c .before .before .before .before .before .before .before .before .before .check .ensures, c .before .before .before .before .before .before .before .i .given .1, ← c .before .before .before .before .at-token .ensures) (rw (← c .before .before .before .row .ensures, ← c .before .before .make .ensures (c .before .before .before .before .before .before .before .before .before .before .before .before .before .args .errors .now)))
+returns c = λ low. rw (← c .before .before .before .before .before .before .before .before .before .check .ensures, c .before .before .before .before .before .before .before .i .given .1, ← c .before .before .before .before .at-token .ensures) (rw (← c .before .before .before .row .ensures, ← c .before .before .make .ensures (c .before .before .before .before .before .before .before .before .before .before .before .before .before .before .args .errors .now)))
 
 enum-told : tie.Need-enum-told
 enum-told c = search needs
+
+looked-requires : tie.Need-looked-requires
+looked-requires c κs = search needs
 
 consume-requires : tie.Need-consume-requires
 consume-requires c κs = search needs
@@ -45,7 +48,7 @@ same-length-2 c = search needs
 
 returns-2 : tie.Need-returns-2
 unfolding run superExpr
-returns-2 c = λ low. rw (← c .before .before .before .before .before .before .before .before .check .ensures, c .before .before .before .before .before .before .enum-told .given .1, ← c .before .before .before .before .consume .ensures (c .before .before .before .before .before .before .before .before .before .before .before .before .args .nodes .now)) (rw (c .enum-told3 .given .1))
+returns-2 c = λ low. rw (← c .before .before .before .before .before .before .before .before .before .check .ensures, c .before .before .before .before .before .before .before .enum-told .given .1, ← c .before .before .before .before .before .looked .ensures) (rw (← c .before .before .before .before .consume .ensures (c .before .before .before .before .before .before .before .before .before .before .before .before .before .before .args .nodes .now), c .enum-told3 .given .1))
 
 require-requires : tie.Need-require-requires
 require-requires c κs = search needs
@@ -61,7 +64,7 @@ same-length-3 c = search needs
 
 returns-3 : tie.Need-returns-3
 unfolding run superExpr
-returns-3 c = λ low. rw (← c .before .before .before .before .before .before .before .before .before .before .before .before .before .before .before .check .ensures, c .before .before .before .before .before .before .before .before .before .before .before .before .before .enum-told .given .1, ← c .before .before .before .before .before .before .before .before .before .before .before .consume .ensures (c .before .before .before .before .before .before .before .before .before .before .before .before .before .before .before .before .before .before .before .args .nodes .now)) (rw (c .before .before .before .before .before .before .before .enum-told2 .given .1, ← c .before .before .before .before .require .ensures (c .before .before .before .before .before .before .before .before .before .before .before .before .before .before .before .before .before .before .before .args .nodes .now), c .enum-told4 .given .1))
+returns-3 c = λ low. rw (← c .before .before .before .before .before .before .before .before .before .before .before .before .before .before .before .before .check .ensures, c .before .before .before .before .before .before .before .before .before .before .before .before .before .before .enum-told .given .1, ← c .before .before .before .before .before .before .before .before .before .before .before .before .looked .ensures) (rw (← c .before .before .before .before .before .before .before .before .before .before .before .consume .ensures (c .before .before .before .before .before .before .before .before .before .before .before .before .before .before .before .before .before .before .before .before .before .args .nodes .now), c .before .before .before .before .before .before .before .enum-told2 .given .1, ← c .before .before .before .before .require .ensures (c .before .before .before .before .before .before .before .before .before .before .before .before .before .before .before .before .before .before .before .before .before .args .nodes .now)) (rw (c .enum-told4 .given .1)))
 
 row-requires-2 : tie.Need-row-requires-2
 row-requires-2 c κs = search needs
@@ -77,7 +80,7 @@ same-length-5 c = search needs
 
 returns-4 : tie.Need-returns-4
 unfolding run superExpr
-returns-4 c = λ low. rw (← c .before .before .before .before .before .before .before .before .before .before .before .before .before .before .before .before .before .before .before .before .before .before .check .ensures, c .before .before .before .before .before .before .before .before .before .before .before .before .before .before .before .before .before .before .before .before .enum-told .given .1, ← c .before .before .before .before .before .before .before .before .before .before .before .before .before .before .before .before .before .before .consume .ensures (c .before .before .before .before .before .before .before .before .before .before .before .before .before .before .before .before .before .before .before .before .before .before .before .before .before .before .args .nodes .now)) (rw (c .before .before .before .before .before .before .before .before .before .before .before .before .before .before .enum-told2 .given .1, ← c .before .before .before .before .before .before .before .before .before .before .before .require .ensures (c .before .before .before .before .before .before .before .before .before .before .before .before .before .before .before .before .before .before .before .before .before .before .before .before .before .before .args .nodes .now), c .before .before .before .before .before .before .before .k .given .1) (rw (← c .before .before .before .row2 .ensures, ← c .before .before .make2 .ensures (c .before .before .before .before .before .before .before .before .before .before .before .require .last .1 .0))))
+returns-4 c = λ low. rw (← c .before .before .before .before .before .before .before .before .before .before .before .before .before .before .before .before .before .before .before .before .before .before .before .check .ensures, c .before .before .before .before .before .before .before .before .before .before .before .before .before .before .before .before .before .before .before .before .before .enum-told .given .1, ← c .before .before .before .before .before .before .before .before .before .before .before .before .before .before .before .before .before .before .before .looked .ensures) (rw (← c .before .before .before .before .before .before .before .before .before .before .before .before .before .before .before .before .before .before .consume .ensures (c .before .before .before .before .before .before .before .before .before .before .before .before .before .before .before .before .before .before .before .before .before .before .before .before .before .before .before .before .args .nodes .now), c .before .before .before .before .before .before .before .before .before .before .before .before .before .before .enum-told2 .given .1, ← c .before .before .before .before .before .before .before .before .before .before .before .require .ensures (c .before .before .before .before .before .before .before .before .before .before .before .before .before .before .before .before .before .before .before .before .before .before .before .before .before .before .before .before .args .nodes .now)) (rw (c .before .before .before .before .before .before .before .k .given .1, ← c .before .before .before .row2 .ensures, ← c .before .before .make2 .ensures (c .before .before .before .before .before .before .before .before .before .before .before .require .last .1 .0))))
 
 pub super-expr-spec : {M : Type 1} → statement M
 super-expr-spec =
@@ -91,6 +94,7 @@ super-expr-spec =
     same-length
     returns
     enum-told
+    looked-requires
     consume-requires
     enum-told-2
     enum-told-3

@@ -13,12 +13,15 @@ enum-known-i c = search needs
 enum-told : tie.Need-enum-told
 enum-told c = search needs
 
+looked-requires : tie.Need-looked-requires
+looked-requires c κs = search needs
+
 gives-requires : tie.Need-gives-requires
 gives-requires c κs = search needs
 
 returns : tie.Need-returns
 unfolding run
-returns c = λ low. rw (← c .before .before .before .matches .ensures, c .before .enum-told .given .1, c .gives .ensures)
+returns c = λ low. rw (← c .before .before .before .before .matches .ensures, c .before .before .enum-told .given .1, ← c .before .looked .ensures) (rw (c .gives .ensures))
 
 at-token-requires : tie.Need-at-token-requires
 at-token-requires c κs = search needs
@@ -37,7 +40,7 @@ same-length c = search needs
 
 returns-2 : tie.Need-returns-2
 unfolding run
-returns-2 c = λ low. rw (← c .before .before .before .before .before .before .before .before .before .before .matches .ensures, c .before .before .before .before .before .before .before .before .i .given .1, ← c .before .before .before .before .before .at-token .ensures) (rw (← c .before .before .before .before .consume .ensures (c .before .before .before .before .before .before .before .before .before .before .before .before .before .before .args .nodes .now), c .enum-told2 .given .1))
+returns-2 c = λ low. rw (← c .before .before .before .before .before .before .before .before .before .before .matches .ensures, c .before .before .before .before .before .before .before .before .i .given .1, ← c .before .before .before .before .before .at-token .ensures) (rw (← c .before .before .before .before .consume .ensures (c .before .before .before .before .before .before .before .before .before .before .before .before .before .before .before .args .nodes .now), c .enum-told2 .given .1))
 
 row-requires : tie.Need-row-requires
 row-requires c κs = search needs
@@ -53,7 +56,7 @@ same-length-3 c = search needs
 
 returns-3 : tie.Need-returns-3
 unfolding run
-returns-3 c = λ low. rw (← c .before .before .before .before .before .before .before .before .before .before .before .before .before .before .before .before .before .matches .ensures, c .before .before .before .before .before .before .before .before .before .before .before .before .before .before .before .i .given .1, ← c .before .before .before .before .before .before .before .before .before .before .before .before .at-token .ensures) (rw (← c .before .before .before .before .before .before .before .before .before .before .before .consume .ensures (c .before .before .before .before .before .before .before .before .before .before .before .before .before .before .before .before .before .before .before .before .before .args .nodes .now), c .before .before .before .before .before .before .before .k .given .1, ← c .before .before .before .row .ensures) (rw (← c .before .before .make .ensures (c .before .before .before .before .before .before .before .before .before .before .before .consume .last .1 .0))))
+returns-3 c = λ low. rw (← c .before .before .before .before .before .before .before .before .before .before .before .before .before .before .before .before .before .matches .ensures, c .before .before .before .before .before .before .before .before .before .before .before .before .before .before .before .i .given .1, ← c .before .before .before .before .before .before .before .before .before .before .before .before .at-token .ensures) (rw (← c .before .before .before .before .before .before .before .before .before .before .before .consume .ensures (c .before .before .before .before .before .before .before .before .before .before .before .before .before .before .before .before .before .before .before .before .before .before .args .nodes .now), c .before .before .before .before .before .before .before .k .given .1, ← c .before .before .before .row .ensures) (rw (← c .before .before .make .ensures (c .before .before .before .before .before .before .before .before .before .before .before .consume .last .1 .0))))
 
 pub superclass-spec : {M : Type 1} → statement M
 superclass-spec =
@@ -62,6 +65,7 @@ superclass-spec =
     matches-requires
     enum-known-i
     enum-told
+    looked-requires
     gives-requires
     returns
     at-token-requires

@@ -18,14 +18,7 @@ same-length : tie.Need-same-length
 same-length c = search needs
 
 returns : tie.Need-returns
-returns c = λ T E. λ i. left ((c .leave .ensures ∙ ap leaving (c .before .closed .ensures)) i) T E (c .before .before .before .before .zero-rest .ensures i)
+returns c = λ T E X. λ i. left ((c .leave .ensures ∙ ap leaving (c .before .closed .ensures)) i) T E (c .before .before .before .before .zero-rest .ensures i) X
 
 pub finish-spec : {M : Type 1} → statement M
-finish-spec =
-    tie.close
-    (tie.spec
-    zero-rest-requires
-    closed-requires
-    leave-requires
-    same-length
-    returns)
+finish-spec = tie.close (tie.spec zero-rest-requires closed-requires leave-requires same-length returns)

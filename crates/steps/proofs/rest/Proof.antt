@@ -16,9 +16,9 @@ same-length : tie.Need-same-length
 same-length c = search needs
 
 returns : tie.Need-returns
-returns c = λ E.
+returns c = λ E X.
     let a = c .before .before .before .before .before .before .before .before .args in
-    c .before .before .finish .ensures (a .tokens .now) E ∙ sym (rest-ends (a .tokens .now) (a .p) E (a .nodes .now) _ (c .before .before .before .before .before .kind-at .ensures) (c .before .before .before .before .if1 .taken))
+    c .before .before .finish .ensures (a .tokens .now) E X ∙ sym (rest-ends (a .tokens .now) (a .p) E (a .nodes .now) X _ (c .before .before .before .before .before .kind-at .ensures) (c .before .before .before .before .if1 .taken))
 
 going-on-requires : tie.Need-going-on-requires
 going-on-requires c κs = search needs
@@ -27,11 +27,9 @@ leave-requires : tie.Need-leave-requires
 leave-requires c κs = search needs
 
 returns-2 : tie.Need-returns-2
-returns-2 c = λ E.
+returns-2 c = λ E X.
     let a = c .before .before .before .before .before .before .args in
-    (λ i. left ((c .leave .ensures ∙ ap leaving (c .before .going-on .ensures)) i) (a .tokens .now) E (a .nodes .now)) ∙ sym (rest-stays (a .tokens .now) (a .p) E (a .nodes .now) _ (c .before .before .before .kind-at .ensures) (c .before .before .if1 .left))
+    (λ i. left ((c .leave .ensures ∙ ap leaving (c .before .going-on .ensures)) i) (a .tokens .now) E (a .nodes .now) X) ∙ sym (rest-stays (a .tokens .now) (a .p) E (a .nodes .now) X _ (c .before .before .before .kind-at .ensures) (c .before .before .if1 .left))
 
 pub rest-spec : {M : Type 1} → statement M
-rest-spec =
-    tie.close
-    (tie.spec kind-at-requires finish-requires same-length returns going-on-requires leave-requires returns-2)
+rest-spec = tie.close (tie.spec kind-at-requires finish-requires same-length returns going-on-requires leave-requires returns-2)

@@ -1,4 +1,5 @@
 -- Made by tools/remake cycle grammar from tools/ans/grammar/assignment.txt: `assignment`, of the cycle.
+use Rattle.parser.specs.Tokens.{indexed}
 use Prim.Native.Nat.{ℕ, _-_}
 use Rattle.parser.specs.Programs.{run, Assignment}
 use Rattle.parser.specs.Grammar.{lower, body, assignment}
@@ -7,6 +8,7 @@ use Rattle.grammar.proofs.assignment.Reads as assignment
 use Rattle.grammar.proofs.+access+arguments+assignment+binary+block+call+class+declaration+elifs+fn_expr+fn_stmt+for_c+for_in+for_loop+func+if_stmt+let_stmt+methods+pairs+primary+ret+slice+stmt+try_catch+unary+upto+while_stmt.Lts-assignment as assignment-lts
 use Rattle.grammar.proofs.binary.Reads as binary
 use Rattle.parser.proofs.State.at_token.Reads as at-token-reads
+use Rattle.parser.proofs.State.looked.Reads as looked-reads
 use Rattle.parser.proofs.matches.Reads as matches-reads
 use Rattle.parser.proofs.stopped.Reads as stopped-reads
 use Rattle.pieces.proofs.assigned.Reads as assigned-reads
@@ -16,21 +18,21 @@ use native.Mathlib.Omega.{arith}
 use mathlib.Core.Path.{_∙_}
 
 abbrev claims : ℕ → assignment-lts.Claims
-claims t = (stopped-reads.Asked, stopped-reads.Learnt, binary-below t, binary.Post, matches-reads.Asked, matches-reads.Learnt, at-token-reads.Asked, at-token-reads.Learnt, assignment-below t, assignment.Post, assigned-reads.Asked, assigned-reads.Learnt)
+claims t = (stopped-reads.Asked, stopped-reads.Learnt, binary-below t, binary.Post, matches-reads.Asked, matches-reads.Learnt, looked-reads.Asked, looked-reads.Learnt, at-token-reads.Asked, at-token-reads.Learnt, assignment-below t, assignment.Post, assigned-reads.Asked, assigned-reads.Learnt)
 
 stopped-requires : (t : ℕ) → assignment-lts.Need-stopped-requires (claims t) (assignment-at t) assignment.Post
 stopped-requires t c κs = search needs
 
 returns : (t : ℕ) → assignment-lts.Need-returns (claims t) (assignment-at t) assignment.Post
 returns t c =
-    let z = lower-zero (c .before .before .before .before .before .args .tokens .now) (c .before .before .before .before .before .args .levels) Assignment (c .before .before .before .before .before .args .p) (c .before .before .before .before .before .args .errors .now) (c .before .before .before .before .before .args .nodes .now) (c .before .if1 .taken) in
+    let z = lower-zero (indexed (c .before .before .before .before .before .before .args .tokens .now) (c .before .before .before .before .before .before .args .index .now)) (c .before .before .before .before .before .before .args .levels) Assignment (c .before .before .before .before .before .before .args .p) (c .before .before .before .before .before .before .args .errors .now) (c .before .before .before .before .before .before .args .nodes .now) (c .before .if1 .taken) in
     rw (z, c .stopped .ensures)
 
 sub-binary : (t : ℕ) → assignment-lts.Need-sub-binary (claims t) (assignment-at t) assignment.Post
 sub-binary t c = search needs
 
 binary-requires : (t : ℕ) → assignment-lts.Need-binary-requires (claims t) (assignment-at t) assignment.Post
-binary-requires t c κs = omega (arith, c .before .before .before .before .before .before .pre)
+binary-requires t c κs = omega (arith, c .before .before .before .before .before .before .before .pre)
 
 enum-known-k : (t : ℕ) → assignment-lts.Need-enum-known-k (claims t) (assignment-at t) assignment.Post
 enum-known-k t c = search needs
@@ -47,7 +49,7 @@ same-length-2 t c = c .before .before .before .before .before .before .binary .k
 returns-2 : (t : ℕ) → assignment-lts.Need-returns-2 (claims t) (assignment-at t) assignment.Post
 unfolding run body assignment
 returns-2 t c =
-    let z = lower-step (c .before .before .before .before .before .before .before .before .before .before .before .before .before .args .tokens .now) (c .before .before .before .before .before .before .before .before .before .before .before .before .before .args .levels) Assignment (c .before .before .before .before .before .before .before .before .before .before .before .before .before .args .p) (c .before .before .before .before .before .before .before .before .before .before .before .before .before .args .errors .now) (c .before .before .before .before .before .before .before .before .before .before .before .before .before .args .nodes .now) (c .before .before .before .before .before .before .before .before .before .if1 .left) in
+    let z = lower-step (indexed (c .before .before .before .before .before .before .before .before .before .before .before .before .before .before .args .tokens .now) (c .before .before .before .before .before .before .before .before .before .before .before .before .before .before .args .index .now)) (c .before .before .before .before .before .before .before .before .before .before .before .before .before .before .args .levels) Assignment (c .before .before .before .before .before .before .before .before .before .before .before .before .before .before .args .p) (c .before .before .before .before .before .before .before .before .before .before .before .before .before .before .args .errors .now) (c .before .before .before .before .before .before .before .before .before .before .before .before .before .before .args .nodes .now) (c .before .before .before .before .before .before .before .before .before .if1 .left) in
     rw (z, ← c .before .before .before .before .before .before .binary .ensures, c .enum-told .given .1)
 
 matches-requires : (t : ℕ) → assignment-lts.Need-matches-requires (claims t) (assignment-at t) assignment.Post
@@ -59,17 +61,20 @@ enum-known-i t c = search needs
 enum-told-2 : (t : ℕ) → assignment-lts.Need-enum-told-2 (claims t) (assignment-at t) assignment.Post
 enum-told-2 t c = search needs
 
+looked-requires : (t : ℕ) → assignment-lts.Need-looked-requires (claims t) (assignment-at t) assignment.Post
+looked-requires t c κs = search needs
+
 same-length-3 : (t : ℕ) → assignment-lts.Need-same-length-3 (claims t) (assignment-at t) assignment.Post
-same-length-3 t c = c .before .before .before .before .before .before .before .before .before .before .before .binary .kept .1 .0
+same-length-3 t c = c .before .before .before .before .before .before .before .before .before .before .before .before .binary .kept .1 .0
 
 same-length-4 : (t : ℕ) → assignment-lts.Need-same-length-4 (claims t) (assignment-at t) assignment.Post
-same-length-4 t c = c .before .before .before .before .before .before .before .before .before .before .before .binary .kept .1 .1 .0
+same-length-4 t c = c .before .before .before .before .before .before .before .before .before .before .before .before .binary .kept .1 .1 .0
 
 returns-3 : (t : ℕ) → assignment-lts.Need-returns-3 (claims t) (assignment-at t) assignment.Post
 unfolding run body assignment
 returns-3 t c =
-    let z = lower-step (c .before .before .before .before .before .before .before .before .before .before .before .before .before .before .before .before .before .before .args .tokens .now) (c .before .before .before .before .before .before .before .before .before .before .before .before .before .before .before .before .before .before .args .levels) Assignment (c .before .before .before .before .before .before .before .before .before .before .before .before .before .before .before .before .before .before .args .p) (c .before .before .before .before .before .before .before .before .before .before .before .before .before .before .before .before .before .before .args .errors .now) (c .before .before .before .before .before .before .before .before .before .before .before .before .before .before .before .before .before .before .args .nodes .now) (c .before .before .before .before .before .before .before .before .before .before .before .before .before .before .if1 .left) in
-    rw (z, ← c .before .before .before .before .before .before .before .before .before .before .before .binary .ensures, c .before .before .before .before .before .k .given .1) (rw (← c .before .before .matches .ensures, c .enum-told2 .given .1))
+    let z = lower-step (indexed (c .before .before .before .before .before .before .before .before .before .before .before .before .before .before .before .before .before .before .before .before .args .tokens .now) (c .before .before .before .before .before .before .before .before .before .before .before .before .before .before .before .before .before .before .before .before .args .index .now)) (c .before .before .before .before .before .before .before .before .before .before .before .before .before .before .before .before .before .before .before .before .args .levels) Assignment (c .before .before .before .before .before .before .before .before .before .before .before .before .before .before .before .before .before .before .before .before .args .p) (c .before .before .before .before .before .before .before .before .before .before .before .before .before .before .before .before .before .before .before .before .args .errors .now) (c .before .before .before .before .before .before .before .before .before .before .before .before .before .before .before .before .before .before .before .before .args .nodes .now) (c .before .before .before .before .before .before .before .before .before .before .before .before .before .before .before .if1 .left) in
+    rw (z, ← c .before .before .before .before .before .before .before .before .before .before .before .before .binary .ensures, c .before .before .before .before .before .before .k .given .1) (rw (← c .before .before .before .matches .ensures, c .before .enum-told2 .given .1, ← c .looked .ensures))
 
 at-token-requires : (t : ℕ) → assignment-lts.Need-at-token-requires (claims t) (assignment-at t) assignment.Post
 at-token-requires t c κs = search needs
@@ -78,7 +83,7 @@ sub-assignment : (t : ℕ) → assignment-lts.Need-sub-assignment (claims t) (as
 sub-assignment t c = search needs
 
 assignment-requires : (t : ℕ) → assignment-lts.Need-assignment-requires (claims t) (assignment-at t) assignment.Post
-assignment-requires t c κs = omega (arith, c .before .before .before .before .before .before .before .before .before .before .before .before .before .before .before .before .before .before .before .before .before .before .pre)
+assignment-requires t c κs = omega (arith, c .before .before .before .before .before .before .before .before .before .before .before .before .before .before .before .before .before .before .before .before .before .before .before .pre)
 
 enum-known-k-2 : (t : ℕ) → assignment-lts.Need-enum-known-k-2 (claims t) (assignment-at t) assignment.Post
 enum-known-k-2 t c = search needs
@@ -95,7 +100,7 @@ same-length-6 t c = c .before .before .before .before .before .before .assignmen
 returns-4 : (t : ℕ) → assignment-lts.Need-returns-4 (claims t) (assignment-at t) assignment.Post
 unfolding run body assignment
 returns-4 t c =
-    let z = lower-step (c .before .before .before .before .before .before .before .before .before .before .before .before .before .before .before .before .before .before .before .before .before .before .before .before .before .before .before .before .before .args .tokens .now) (c .before .before .before .before .before .before .before .before .before .before .before .before .before .before .before .before .before .before .before .before .before .before .before .before .before .before .before .before .before .args .levels) Assignment (c .before .before .before .before .before .before .before .before .before .before .before .before .before .before .before .before .before .before .before .before .before .before .before .before .before .before .before .before .before .args .p) (c .before .before .before .before .before .before .before .before .before .before .before .before .before .before .before .before .before .before .before .before .before .before .before .before .before .before .before .before .before .args .errors .now) (c .before .before .before .before .before .before .before .before .before .before .before .before .before .before .before .before .before .before .before .before .before .before .before .before .before .before .before .before .before .args .nodes .now) (c .before .before .before .before .before .before .before .before .before .before .before .before .before .before .before .before .before .before .before .before .before .before .before .before .before .if1 .left) in
+    let z = lower-step (indexed (c .before .before .before .before .before .before .before .before .before .before .before .before .before .before .before .before .before .before .before .before .before .before .before .before .before .before .before .before .before .before .args .tokens .now) (c .before .before .before .before .before .before .before .before .before .before .before .before .before .before .before .before .before .before .before .before .before .before .before .before .before .before .before .before .before .before .args .index .now)) (c .before .before .before .before .before .before .before .before .before .before .before .before .before .before .before .before .before .before .before .before .before .before .before .before .before .before .before .before .before .before .args .levels) Assignment (c .before .before .before .before .before .before .before .before .before .before .before .before .before .before .before .before .before .before .before .before .before .before .before .before .before .before .before .before .before .before .args .p) (c .before .before .before .before .before .before .before .before .before .before .before .before .before .before .before .before .before .before .before .before .before .before .before .before .before .before .before .before .before .before .args .errors .now) (c .before .before .before .before .before .before .before .before .before .before .before .before .before .before .before .before .before .before .before .before .before .before .before .before .before .before .before .before .before .before .args .nodes .now) (c .before .before .before .before .before .before .before .before .before .before .before .before .before .before .before .before .before .before .before .before .before .before .before .before .before .if1 .left) in
     rw (z, ← c .before .before .before .before .before .before .before .before .before .before .before .before .before .before .before .before .before .before .before .before .before .before .binary .ensures, c .before .before .before .before .before .before .before .before .before .before .before .before .before .before .before .before .k .given .1) (rw (← c .before .before .before .before .before .before .before .before .before .before .before .before .before .matches .ensures, c .before .before .before .before .before .before .before .before .before .before .before .i .given .1, ← c .before .before .before .before .before .before .before .at-token .ensures) (rw (← c .before .before .before .before .before .before .assignment .ensures, c .enum-told3 .given .1)))
 
 assigned-requires : (t : ℕ) → assignment-lts.Need-assigned-requires (claims t) (assignment-at t) assignment.Post
@@ -110,8 +115,8 @@ same-length-8 t c = c .before .before .before .before .assigned .kept .1 .1 .0 �
 returns-5 : (t : ℕ) → assignment-lts.Need-returns-5 (claims t) (assignment-at t) assignment.Post
 unfolding run body assignment
 returns-5 t c =
-    let z = lower-step (c .before .before .before .before .before .before .before .before .before .before .before .before .before .before .before .before .before .before .before .before .before .before .before .before .before .before .before .before .before .before .before .before .before .before .before .before .before .before .args .tokens .now) (c .before .before .before .before .before .before .before .before .before .before .before .before .before .before .before .before .before .before .before .before .before .before .before .before .before .before .before .before .before .before .before .before .before .before .before .before .before .before .args .levels) Assignment (c .before .before .before .before .before .before .before .before .before .before .before .before .before .before .before .before .before .before .before .before .before .before .before .before .before .before .before .before .before .before .before .before .before .before .before .before .before .before .args .p) (c .before .before .before .before .before .before .before .before .before .before .before .before .before .before .before .before .before .before .before .before .before .before .before .before .before .before .before .before .before .before .before .before .before .before .before .before .before .before .args .errors .now) (c .before .before .before .before .before .before .before .before .before .before .before .before .before .before .before .before .before .before .before .before .before .before .before .before .before .before .before .before .before .before .before .before .before .before .before .before .before .before .args .nodes .now) (c .before .before .before .before .before .before .before .before .before .before .before .before .before .before .before .before .before .before .before .before .before .before .before .before .before .before .before .before .before .before .before .before .before .before .if1 .left) in
-    rw (z, ← c .before .before .before .before .before .before .before .before .before .before .before .before .before .before .before .before .before .before .before .before .before .before .before .before .before .before .before .before .before .before .before .binary .ensures, c .before .before .before .before .before .before .before .before .before .before .before .before .before .before .before .before .before .before .before .before .before .before .before .before .before .k .given .1) (rw (← c .before .before .before .before .before .before .before .before .before .before .before .before .before .before .before .before .before .before .before .before .before .before .matches .ensures, c .before .before .before .before .before .before .before .before .before .before .before .before .before .before .before .before .before .before .before .before .i .given .1, ← c .before .before .before .before .before .before .before .before .before .before .before .before .before .before .before .before .at-token .ensures) (rw (← c .before .before .before .before .before .before .before .before .before .before .before .before .before .before .before .assignment .ensures, c .before .before .before .before .before .before .before .before .before .k2 .given .1, ← c .before .before .before .before .assigned .ensures (lower (c .before .before .before .before .before .before .before .before .before .before .before .before .before .before .before .before .before .before .before .before .before .before .before .before .before .before .before .before .before .before .before .before .before .before .before .before .before .before .args .tokens .now) (c .before .before .before .before .before .before .before .before .before .before .before .before .before .before .before .before .before .before .before .before .before .before .before .before .before .before .before .before .before .before .before .before .before .before .before .before .before .before .args .levels - 1)))))
+    let z = lower-step (indexed (c .before .before .before .before .before .before .before .before .before .before .before .before .before .before .before .before .before .before .before .before .before .before .before .before .before .before .before .before .before .before .before .before .before .before .before .before .before .before .before .args .tokens .now) (c .before .before .before .before .before .before .before .before .before .before .before .before .before .before .before .before .before .before .before .before .before .before .before .before .before .before .before .before .before .before .before .before .before .before .before .before .before .before .before .args .index .now)) (c .before .before .before .before .before .before .before .before .before .before .before .before .before .before .before .before .before .before .before .before .before .before .before .before .before .before .before .before .before .before .before .before .before .before .before .before .before .before .before .args .levels) Assignment (c .before .before .before .before .before .before .before .before .before .before .before .before .before .before .before .before .before .before .before .before .before .before .before .before .before .before .before .before .before .before .before .before .before .before .before .before .before .before .before .args .p) (c .before .before .before .before .before .before .before .before .before .before .before .before .before .before .before .before .before .before .before .before .before .before .before .before .before .before .before .before .before .before .before .before .before .before .before .before .before .before .before .args .errors .now) (c .before .before .before .before .before .before .before .before .before .before .before .before .before .before .before .before .before .before .before .before .before .before .before .before .before .before .before .before .before .before .before .before .before .before .before .before .before .before .before .args .nodes .now) (c .before .before .before .before .before .before .before .before .before .before .before .before .before .before .before .before .before .before .before .before .before .before .before .before .before .before .before .before .before .before .before .before .before .before .if1 .left) in
+    rw (z, ← c .before .before .before .before .before .before .before .before .before .before .before .before .before .before .before .before .before .before .before .before .before .before .before .before .before .before .before .before .before .before .before .binary .ensures, c .before .before .before .before .before .before .before .before .before .before .before .before .before .before .before .before .before .before .before .before .before .before .before .before .before .k .given .1) (rw (← c .before .before .before .before .before .before .before .before .before .before .before .before .before .before .before .before .before .before .before .before .before .before .matches .ensures, c .before .before .before .before .before .before .before .before .before .before .before .before .before .before .before .before .before .before .before .before .i .given .1, ← c .before .before .before .before .before .before .before .before .before .before .before .before .before .before .before .before .at-token .ensures) (rw (← c .before .before .before .before .before .before .before .before .before .before .before .before .before .before .before .assignment .ensures, c .before .before .before .before .before .before .before .before .before .k2 .given .1, ← c .before .before .before .before .assigned .ensures (lower (indexed (c .before .before .before .before .before .before .before .before .before .before .before .before .before .before .before .before .before .before .before .before .before .before .before .before .before .before .before .before .before .before .before .before .before .before .before .before .before .before .before .args .tokens .now) (c .before .before .before .before .before .before .before .before .before .before .before .before .before .before .before .before .before .before .before .before .before .before .before .before .before .before .before .before .before .before .before .before .before .before .before .before .before .before .before .args .index .now)) (c .before .before .before .before .before .before .before .before .before .before .before .before .before .before .before .before .before .before .before .before .before .before .before .before .before .before .before .before .before .before .before .before .before .before .before .before .before .before .before .args .levels - 1)) (c .before .before .before .before .before .before .before .before .before .before .before .before .before .before .before .before .before .before .before .before .before .before .before .before .before .before .before .before .before .before .before .before .before .before .before .before .before .before .before .args .index .now))))
 
 pub assignment-ok : {M : Type 1} (t : ℕ) → assignment-lts.Closed (claims t) (assignment-at t) assignment.Post M
 assignment-ok t = assignment-lts.spec (claims t) (assignment-at t) assignment.Post
@@ -127,6 +132,7 @@ assignment-ok t = assignment-lts.spec (claims t) (assignment-at t) assignment.Po
     (matches-requires t)
     (enum-known-i t)
     (enum-told-2 t)
+    (looked-requires t)
     (same-length-3 t)
     (same-length-4 t)
     (returns-3 t)

@@ -6,10 +6,11 @@ use native.Mathlib.Omega.{arith}
 use lib.ListN.{length, drop}
 use Rattle.parser.specs.declared.State.{State}
 use Rattle.parser.specs.declared.Found.{Found}
-use Rattle.parser.specs.Tokens.{count}
+use Rattle.parser.specs.Tokens.{View, indexed, count}
 use Rattle.parser.specs.Tables.{Reply, reply}
 use Rattle.parser.specs.Programs.{run}
 use Rattle.parser.specs.Grammar.{lower, levels}
+use Rattle.operators.specs.declared.Tried.{Tried}
 use Rattle.operators.specs.Operators.{binaryAt}
 use Rattle.pieces.proofs.Turns.{not-back, make-on}
 use Rattle.operators.proofs.Operators.{onward, spare, spare-enough, taken, turns, turns-all}
@@ -19,52 +20,53 @@ use Rattle.grammar.proofs.unary.Reads as unary
 use Rattle.operators.proofs.operation.Reads as operation-reads
 use Rattle.operators.proofs.turn_at.Reads as turn-at-reads
 use Rattle.parser.proofs.State.at_token.Reads as at-token-reads
+use Rattle.parser.proofs.State.looked.Reads as looked-reads
 use Rattle.parser.proofs.make.Reads as make-reads
 use Rattle.pieces.proofs.found.Reads as found-reads
 use Rattle.grammar.proofs.+access+arguments+assignment+binary+block+call+class+declaration+elifs+fn_expr+fn_stmt+for_c+for_in+for_loop+func+if_stmt+let_stmt+methods+pairs+primary+ret+slice+stmt+try_catch+unary+upto+while_stmt.Proof.Measures.{binary-at, binary-below, unary-below}
 use borrow.Author.Needs.{needs}
 
 abbrev claims : ℕ → binary-lts.Claims
-claims t = (unary-below t, unary.Post, turn-at-reads.Asked, turn-at-reads.Learnt, found-reads.Asked, found-reads.Learnt, at-token-reads.Asked, at-token-reads.Learnt, binary-below t, binary.Post, operation-reads.Asked, operation-reads.Learnt, make-reads.Asked, make-reads.Learnt)
+claims t = (unary-below t, unary.Post, turn-at-reads.Asked, turn-at-reads.Learnt, looked-reads.Asked, looked-reads.Learnt, found-reads.Asked, found-reads.Learnt, at-token-reads.Asked, at-token-reads.Learnt, binary-below t, binary.Post, operation-reads.Asked, operation-reads.Learnt, make-reads.Asked, make-reads.Learnt)
 
 -- the turns that are left, with r the tightest level that is open
-abbrev onFrom : List ℕ → ℕ → ℕ → ℕ → ℕ → Found → State → List ℕ → List ℕ → Reply
+abbrev onFrom : View → ℕ → ℕ → ℕ → ℕ → Found → State → List ℕ → List ℕ → Reply
 onFrom T l looser f r g p E N = run T (lower T l) (onward T f (drop looser levels) (r - looser) g) p E N
 
 -- are the rest of the whole, with fuel for a turn for each token that is left
-record BinaryInv (T : List ℕ) (l looser : ℕ) (E₀ N₀ : List ℕ) (g₀ : Found) (p₀ : State) (E N : List ℕ) (g : Found) (p : State) (r : ℕ) : Type 0 where
+record BinaryInv (T : View) (l looser : ℕ) (E₀ N₀ : List ℕ) (g₀ : Found) (p₀ : State) (E N : List ℕ) (g : Found) (p : State) (r : ℕ) : Type 0 where
   fuel : ℕ
-  enough : count T - p .current ≤ fuel
+  enough : count (T .tokens) - p .current ≤ fuel
   within : r ≤ 7
-  same : onFrom T l looser (suc fuel) r g p E N ≡ onFrom T l looser (suc (count T)) 7 g₀ p₀ E₀ N₀
+  same : onFrom T l looser (suc fuel) r g p E N ≡ onFrom T l looser (suc (count (T .tokens))) 7 g₀ p₀ E₀ N₀
   errors : length E ≡ length E₀
   nodes : length N ≡ length N₀
 
 abbrev binary-Inv-loop : binary-lts.InvT-loop
-binary-Inv-loop tokens errors₀ nodes₀ levels looser left₀ s₀ r₀ errors nodes left s r = BinaryInv tokens levels looser errors₀ nodes₀ left₀ s₀ errors nodes left s r
+binary-Inv-loop tokens errors₀ nodes₀ index levels looser left₀ s₀ r₀ errors nodes left s r = BinaryInv (indexed tokens index) levels looser errors₀ nodes₀ left₀ s₀ errors nodes left s r
 
 abbrev binary-μ-loop : binary-lts.MeasureT-loop
-binary-μ-loop tokens errors₀ nodes₀ levels looser left₀ s₀ r₀ errors nodes left s r = count tokens - s .current
+binary-μ-loop tokens errors₀ nodes₀ index levels looser left₀ s₀ r₀ errors nodes left s r = count tokens - s .current
 
 -- at the loop's head what is left is the whole
-head : (t : ℕ) (c : binary-lts.At-loop (claims t) (binary-at t) binary.Post binary-Inv-loop binary-μ-loop) → run (c .before .before .before .before .before .before .before .before .before .before .before .before .before .before .before .args .tokens .now) (lower (c .before .before .before .before .before .before .before .before .before .before .before .before .before .before .before .args .tokens .now) (c .before .before .before .before .before .before .before .before .before .before .before .before .before .before .before .args .levels)) (binaryAt (c .before .before .before .before .before .before .before .before .before .before .before .before .before .before .before .args .tokens .now) (c .before .before .before .before .before .before .before .before .before .before .before .before .before .before .before .args .looser)) (c .before .before .before .before .before .before .before .before .before .before .before .before .before .before .before .args .p) (c .before .before .before .before .before .before .before .before .before .before .before .before .before .before .before .args .errors .now) (c .before .before .before .before .before .before .before .before .before .before .before .before .before .before .before .args .nodes .now) ≡ onFrom (c .before .before .before .before .before .before .before .before .before .before .before .before .before .before .before .args .tokens .now) (c .before .before .before .before .before .before .before .before .before .before .before .before .before .before .before .args .levels) (c .before .before .before .before .before .before .before .before .before .before .before .before .before .before .before .args .looser) (suc (c .loop .inv .fuel)) (c .loop .r) (c .loop .left) (c .loop .s) (c .loop .errors) (c .loop .nodes)
-head t c = rw (turns-all (c .before .before .before .before .before .before .before .before .before .before .before .before .before .before .before .args .tokens .now) (lower (c .before .before .before .before .before .before .before .before .before .before .before .before .before .before .before .args .tokens .now) (c .before .before .before .before .before .before .before .before .before .before .before .before .before .before .before .args .levels)) (c .before .before .before .before .before .before .before .before .before .before .before .before .before .before .before .args .looser) (c .before .before .before .before .before .before .before .before .before .before .before .before .before .before .before .args .p) (c .before .before .before .before .before .before .before .before .before .before .before .before .before .before .before .args .errors .now) (c .before .before .before .before .before .before .before .before .before .before .before .before .before .before .before .args .nodes .now), ← c .before .before .before .before .before .before .before .before .before .unary .ensures, c .before .before .before .k .given .1) (sym (c .loop .inv .same))
+head : (t : ℕ) (c : binary-lts.At-loop (claims t) (binary-at t) binary.Post binary-Inv-loop binary-μ-loop) → run (indexed (c .before .before .before .before .before .before .before .before .before .before .before .before .before .before .before .before .args .tokens .now) (c .before .before .before .before .before .before .before .before .before .before .before .before .before .before .before .before .args .index .now)) (lower (indexed (c .before .before .before .before .before .before .before .before .before .before .before .before .before .before .before .before .args .tokens .now) (c .before .before .before .before .before .before .before .before .before .before .before .before .before .before .before .before .args .index .now)) (c .before .before .before .before .before .before .before .before .before .before .before .before .before .before .before .before .args .levels)) (binaryAt (indexed (c .before .before .before .before .before .before .before .before .before .before .before .before .before .before .before .before .args .tokens .now) (c .before .before .before .before .before .before .before .before .before .before .before .before .before .before .before .before .args .index .now)) (c .before .before .before .before .before .before .before .before .before .before .before .before .before .before .before .before .args .looser)) (c .before .before .before .before .before .before .before .before .before .before .before .before .before .before .before .before .args .p) (c .before .before .before .before .before .before .before .before .before .before .before .before .before .before .before .before .args .errors .now) (c .before .before .before .before .before .before .before .before .before .before .before .before .before .before .before .before .args .nodes .now) ≡ onFrom (indexed (c .before .before .before .before .before .before .before .before .before .before .before .before .before .before .before .before .args .tokens .now) (c .before .before .before .before .before .before .before .before .before .before .before .before .before .before .before .before .args .index .now)) (c .before .before .before .before .before .before .before .before .before .before .before .before .before .before .before .before .args .levels) (c .before .before .before .before .before .before .before .before .before .before .before .before .before .before .before .before .args .looser) (suc (c .loop .inv .fuel)) (c .loop .r) (c .loop .left) (c .loop .s) (c .loop .errors) (c .loop .nodes)
+head t c = rw (turns-all (indexed (c .before .before .before .before .before .before .before .before .before .before .before .before .before .before .before .before .args .tokens .now) (c .before .before .before .before .before .before .before .before .before .before .before .before .before .before .before .before .args .index .now)) (lower (indexed (c .before .before .before .before .before .before .before .before .before .before .before .before .before .before .before .before .args .tokens .now) (c .before .before .before .before .before .before .before .before .before .before .before .before .before .before .before .before .args .index .now)) (c .before .before .before .before .before .before .before .before .before .before .before .before .before .before .before .before .args .levels)) (c .before .before .before .before .before .before .before .before .before .before .before .before .before .before .before .before .args .looser) (c .before .before .before .before .before .before .before .before .before .before .before .before .before .before .before .before .args .p) (c .before .before .before .before .before .before .before .before .before .before .before .before .before .before .before .before .args .errors .now) (c .before .before .before .before .before .before .before .before .before .before .before .before .before .before .before .before .args .nodes .now), ← c .before .before .before .before .before .before .before .before .before .unary .ensures, c .before .before .before .k .given .1) (sym (c .loop .inv .same))
 
-passes : (t : ℕ) (c : binary-lts.After-s2 (claims t) (binary-at t) binary.Post binary-Inv-loop binary-μ-loop) → (c .before .before .before .before .before .before .before .before .before .before .before .before .before .before .before .before .before .before .before .before .before .before .before .before .before .loop .s .current < c .before .before .before .before .before .before .make .result .p .current) × (c .before .before .before .before .before .before .before .before .before .before .before .before .before .before .before .before .before .before .before .before .before .before .before .before .before .loop .s .current < count (c .before .before .before .before .before .before .before .before .before .before .before .before .before .before .before .before .before .before .before .before .before .before .before .before .before .before .before .before .before .before .before .before .before .before .before .before .before .before .before .before .args .tokens .now))
+passes : (t : ℕ) (c : binary-lts.After-s2 (claims t) (binary-at t) binary.Post binary-Inv-loop binary-μ-loop) → (c .before .before .before .before .before .before .before .before .before .before .before .before .before .before .before .before .before .before .before .before .before .before .before .before .before .loop .s .current < c .before .before .before .before .before .before .make .result .p .current) × (c .before .before .before .before .before .before .before .before .before .before .before .before .before .before .before .before .before .before .before .before .before .before .before .before .before .loop .s .current < count (c .before .before .before .before .before .before .before .before .before .before .before .before .before .before .before .before .before .before .before .before .before .before .before .before .before .before .before .before .before .before .before .before .before .before .before .before .before .before .before .before .before .args .tokens .now))
 passes t c =
-    let k = taken _ _ _ _ _ _ (c .before .before .before .before .before .before .before .before .before .before .before .before .before .before .before .before .before .before .before .before .before .before .before .before .before .loop .inv .within) (sym (c .before .before .before .before .before .before .before .before .before .before .before .before .before .before .before .before .before .before .before .before .before .before .before .before .turn-at .ensures) ∙ c .before .before .before .before .before .before .before .before .before .before .before .before .before .before .before .before .before .before .before .before .before .before .rank .given .1) in
+    let k = taken _ _ _ _ _ _ (c .before .before .before .before .before .before .before .before .before .before .before .before .before .before .before .before .before .before .before .before .before .before .before .before .before .loop .inv .within) (ap (λ (x : Tried). x .turn) (sym (c .before .before .before .before .before .before .before .before .before .before .before .before .before .before .before .before .before .before .before .before .before .before .before .before .turn-at .ensures)) ∙ c .before .before .before .before .before .before .before .before .before .before .before .before .before .before .before .before .before .before .before .before .before .before .turn .given .1) in
     let a = ap (λ (x : State). x .current) (c .before .before .before .before .before .before .before .before .before .before .before .before .before .before .before .before .before .before .at-token .ensures) in
-    let b = not-back (c .before .before .before .before .before .before .before .before .before .before .before .before .before .before .before .before .before .before .before .before .before .before .before .before .before .before .before .before .before .before .before .before .before .before .before .before .before .before .before .before .args .tokens .now) (c .before .before .before .before .before .before .before .before .before .before .before .before .before .before .before .before .before .before .before .before .before .before .before .before .before .before .before .before .before .before .before .before .before .before .before .before .before .before .before .before .args .levels) (binaryAt (c .before .before .before .before .before .before .before .before .before .before .before .before .before .before .before .before .before .before .before .before .before .before .before .before .before .before .before .before .before .before .before .before .before .before .before .before .before .before .before .before .args .tokens .now) (c .before .before .before .before .before .before .before .before .before .before .before .before .before .before .before .before .before .before .before .before .before .before .rank .given .0 .0)) _ _ _ _ _ _ _ (c .before .before .before .before .before .before .before .before .before .before .before .before .before .before .before .before .before .binary .ensures) in
+    let b = not-back (indexed (c .before .before .before .before .before .before .before .before .before .before .before .before .before .before .before .before .before .before .before .before .before .before .before .before .before .before .before .before .before .before .before .before .before .before .before .before .before .before .before .before .before .args .tokens .now) (c .before .before .before .before .before .before .before .before .before .before .before .before .before .before .before .before .before .before .before .before .before .before .before .before .before .before .before .before .before .before .before .before .before .before .before .before .before .before .before .before .before .args .index .now)) (c .before .before .before .before .before .before .before .before .before .before .before .before .before .before .before .before .before .before .before .before .before .before .before .before .before .before .before .before .before .before .before .before .before .before .before .before .before .before .before .before .before .args .levels) (binaryAt (indexed (c .before .before .before .before .before .before .before .before .before .before .before .before .before .before .before .before .before .before .before .before .before .before .before .before .before .before .before .before .before .before .before .before .before .before .before .before .before .before .before .before .before .args .tokens .now) (c .before .before .before .before .before .before .before .before .before .before .before .before .before .before .before .before .before .before .before .before .before .before .before .before .before .before .before .before .before .before .before .before .before .before .before .before .before .before .before .before .before .args .index .now)) (c .before .before .before .before .before .before .before .before .before .before .before .before .before .before .before .before .before .before .before .before .before .before .turn .given .0 .0)) _ _ _ _ _ _ _ (c .before .before .before .before .before .before .before .before .before .before .before .before .before .before .before .before .before .binary .ensures) in
     let d = make-on _ _ _ _ [] _ [] _ (c .before .before .before .before .before .before .make .ensures []) in
     (omega (arith, k .passed), k .inside)
 
-again : (t : ℕ) (c : binary-lts.After-s2 (claims t) (binary-at t) binary.Post binary-Inv-loop binary-μ-loop) → onFrom (c .before .before .before .before .before .before .before .before .before .before .before .before .before .before .before .before .before .before .before .before .before .before .before .before .before .before .before .before .before .before .before .before .before .before .before .before .before .before .before .before .args .tokens .now) (c .before .before .before .before .before .before .before .before .before .before .before .before .before .before .before .before .before .before .before .before .before .before .before .before .before .before .before .before .before .before .before .before .before .before .before .before .before .before .before .before .args .levels) (c .before .before .before .before .before .before .before .before .before .before .before .before .before .before .before .before .before .before .before .before .before .before .before .before .before .before .before .before .before .before .before .before .before .before .before .before .before .before .before .before .args .looser) (spare (c .before .before .before .before .before .before .before .before .before .before .before .before .before .before .before .before .before .before .before .before .before .before .before .before .before .before .before .before .before .before .before .before .before .before .before .before .before .before .before .before .args .tokens .now) (c .before .before .before .before .before .before .before .before .before .before .before .before .before .before .before .before .before .before .before .before .before .before .before .before .before .loop .inv .fuel) (c .before .before .before .before .before .before .before .before .before .before .before .before .before .before .before .before .before .before .before .before .before .before .before .before .before .loop .r - c .before .before .before .before .before .before .before .before .before .before .before .before .before .before .before .before .before .before .before .before .before .before .rank .given .0 .0)) (c .before .before .before .before .before .before .before .before .before .before .before .before .before .before .before .before .before .before .before .before .before .before .rank .given .0 .0) (c .before .before .km .given .0 .0) (c .before .before .before .before .before .before .make .result .p) (c .before .before .before .before .before .before .before .before .before .before .before .before .before .before .before .before .before .binary .last .1 .0) (c .before .before .before .before .before .before .make .last .0) ≡ onFrom (c .before .before .before .before .before .before .before .before .before .before .before .before .before .before .before .before .before .before .before .before .before .before .before .before .before .before .before .before .before .before .before .before .before .before .before .before .before .before .before .before .args .tokens .now) (c .before .before .before .before .before .before .before .before .before .before .before .before .before .before .before .before .before .before .before .before .before .before .before .before .before .before .before .before .before .before .before .before .before .before .before .before .before .before .before .before .args .levels) (c .before .before .before .before .before .before .before .before .before .before .before .before .before .before .before .before .before .before .before .before .before .before .before .before .before .before .before .before .before .before .before .before .before .before .before .before .before .before .before .before .args .looser) (suc (c .before .before .before .before .before .before .before .before .before .before .before .before .before .before .before .before .before .before .before .before .before .before .before .before .before .loop .inv .fuel)) (c .before .before .before .before .before .before .before .before .before .before .before .before .before .before .before .before .before .before .before .before .before .before .before .before .before .loop .r) (c .before .before .before .before .before .before .before .before .before .before .before .before .before .before .before .before .before .before .before .before .before .before .before .before .before .loop .left) (c .before .before .before .before .before .before .before .before .before .before .before .before .before .before .before .before .before .before .before .before .before .before .before .before .before .loop .s) (c .before .before .before .before .before .before .before .before .before .before .before .before .before .before .before .before .before .before .before .before .before .before .before .before .before .loop .errors) (c .before .before .before .before .before .before .before .before .before .before .before .before .before .before .before .before .before .before .before .before .before .before .before .before .before .loop .nodes)
+again : (t : ℕ) (c : binary-lts.After-s2 (claims t) (binary-at t) binary.Post binary-Inv-loop binary-μ-loop) → onFrom (indexed (c .before .before .before .before .before .before .before .before .before .before .before .before .before .before .before .before .before .before .before .before .before .before .before .before .before .before .before .before .before .before .before .before .before .before .before .before .before .before .before .before .before .args .tokens .now) (c .before .before .before .before .before .before .before .before .before .before .before .before .before .before .before .before .before .before .before .before .before .before .before .before .before .before .before .before .before .before .before .before .before .before .before .before .before .before .before .before .before .args .index .now)) (c .before .before .before .before .before .before .before .before .before .before .before .before .before .before .before .before .before .before .before .before .before .before .before .before .before .before .before .before .before .before .before .before .before .before .before .before .before .before .before .before .before .args .levels) (c .before .before .before .before .before .before .before .before .before .before .before .before .before .before .before .before .before .before .before .before .before .before .before .before .before .before .before .before .before .before .before .before .before .before .before .before .before .before .before .before .before .args .looser) (spare (indexed (c .before .before .before .before .before .before .before .before .before .before .before .before .before .before .before .before .before .before .before .before .before .before .before .before .before .before .before .before .before .before .before .before .before .before .before .before .before .before .before .before .before .args .tokens .now) (c .before .before .before .before .before .before .before .before .before .before .before .before .before .before .before .before .before .before .before .before .before .before .before .before .before .before .before .before .before .before .before .before .before .before .before .before .before .before .before .before .before .args .index .now)) (c .before .before .before .before .before .before .before .before .before .before .before .before .before .before .before .before .before .before .before .before .before .before .before .before .before .loop .inv .fuel) (c .before .before .before .before .before .before .before .before .before .before .before .before .before .before .before .before .before .before .before .before .before .before .before .before .before .loop .r - c .before .before .before .before .before .before .before .before .before .before .before .before .before .before .before .before .before .before .before .before .before .before .turn .given .0 .0)) (c .before .before .before .before .before .before .before .before .before .before .before .before .before .before .before .before .before .before .before .before .before .before .turn .given .0 .0) (c .before .before .km .given .0 .0) (c .before .before .before .before .before .before .make .result .p) (c .before .before .before .before .before .before .before .before .before .before .before .before .before .before .before .before .before .binary .last .1 .0) (c .before .before .before .before .before .before .make .last .0) ≡ onFrom (indexed (c .before .before .before .before .before .before .before .before .before .before .before .before .before .before .before .before .before .before .before .before .before .before .before .before .before .before .before .before .before .before .before .before .before .before .before .before .before .before .before .before .before .args .tokens .now) (c .before .before .before .before .before .before .before .before .before .before .before .before .before .before .before .before .before .before .before .before .before .before .before .before .before .before .before .before .before .before .before .before .before .before .before .before .before .before .before .before .before .args .index .now)) (c .before .before .before .before .before .before .before .before .before .before .before .before .before .before .before .before .before .before .before .before .before .before .before .before .before .before .before .before .before .before .before .before .before .before .before .before .before .before .before .before .before .args .levels) (c .before .before .before .before .before .before .before .before .before .before .before .before .before .before .before .before .before .before .before .before .before .before .before .before .before .before .before .before .before .before .before .before .before .before .before .before .before .before .before .before .before .args .looser) (suc (c .before .before .before .before .before .before .before .before .before .before .before .before .before .before .before .before .before .before .before .before .before .before .before .before .before .loop .inv .fuel)) (c .before .before .before .before .before .before .before .before .before .before .before .before .before .before .before .before .before .before .before .before .before .before .before .before .before .loop .r) (c .before .before .before .before .before .before .before .before .before .before .before .before .before .before .before .before .before .before .before .before .before .before .before .before .before .loop .left) (c .before .before .before .before .before .before .before .before .before .before .before .before .before .before .before .before .before .before .before .before .before .before .before .before .before .loop .s) (c .before .before .before .before .before .before .before .before .before .before .before .before .before .before .before .before .before .before .before .before .before .before .before .before .before .loop .errors) (c .before .before .before .before .before .before .before .before .before .before .before .before .before .before .before .before .before .before .before .before .before .before .before .before .before .loop .nodes)
 again t c =
-    let e = turns (c .before .before .before .before .before .before .before .before .before .before .before .before .before .before .before .before .before .before .before .before .before .before .before .before .before .before .before .before .before .before .before .before .before .before .before .before .before .before .before .before .args .tokens .now) (lower (c .before .before .before .before .before .before .before .before .before .before .before .before .before .before .before .before .before .before .before .before .before .before .before .before .before .before .before .before .before .before .before .before .before .before .before .before .before .before .before .before .args .tokens .now) (c .before .before .before .before .before .before .before .before .before .before .before .before .before .before .before .before .before .before .before .before .before .before .before .before .before .before .before .before .before .before .before .before .before .before .before .before .before .before .before .before .args .levels)) (c .before .before .before .before .before .before .before .before .before .before .before .before .before .before .before .before .before .before .before .before .before .before .before .before .before .before .before .before .before .before .before .before .before .before .before .before .before .before .before .before .args .looser) (c .before .before .before .before .before .before .before .before .before .before .before .before .before .before .before .before .before .before .before .before .before .before .before .before .before .loop .left) (c .before .before .before .before .before .before .before .before .before .before .before .before .before .before .before .before .before .before .before .before .before .before .before .before .before .loop .s) (c .before .before .before .before .before .before .before .before .before .before .before .before .before .before .before .before .before .before .before .before .before .before .before .before .before .loop .errors) (c .before .before .before .before .before .before .before .before .before .before .before .before .before .before .before .before .before .before .before .before .before .before .before .before .before .loop .nodes) (c .before .before .before .before .before .before .before .before .before .before .before .before .before .before .before .before .before .before .before .before .before .before .before .before .before .loop .inv .fuel) (c .before .before .before .before .before .before .before .before .before .before .before .before .before .before .before .before .before .before .before .before .before .before .before .before .before .loop .r) (c .before .before .before .before .before .before .before .before .before .before .before .before .before .before .before .before .before .before .before .before .before .before .before .before .before .loop .inv .within) in
-    rw (e, ← c .before .before .before .before .before .before .before .before .before .before .before .before .before .before .before .before .before .before .before .before .before .before .before .before .turn-at .ensures, c .before .before .before .before .before .before .before .before .before .before .before .before .before .before .before .before .before .before .before .before .before .before .rank .given .1) (rw (← c .before .before .before .before .before .before .before .before .before .before .before .before .before .before .before .before .before .before .at-token .ensures, ← c .before .before .before .before .before .before .before .before .before .before .before .before .before .before .before .before .before .binary .ensures, c .before .before .before .before .before .before .before .before .before .before .before .kh .given .1) (rw (← c .before .before .before .before .before .before .before .operation .ensures, ← c .before .before .before .before .before .before .make .ensures (c .before .before .before .before .before .before .before .before .before .before .before .before .before .before .before .before .before .binary .last .1 .0), c .before .before .km .given .1)))
+    let e = turns (indexed (c .before .before .before .before .before .before .before .before .before .before .before .before .before .before .before .before .before .before .before .before .before .before .before .before .before .before .before .before .before .before .before .before .before .before .before .before .before .before .before .before .before .args .tokens .now) (c .before .before .before .before .before .before .before .before .before .before .before .before .before .before .before .before .before .before .before .before .before .before .before .before .before .before .before .before .before .before .before .before .before .before .before .before .before .before .before .before .before .args .index .now)) (lower (indexed (c .before .before .before .before .before .before .before .before .before .before .before .before .before .before .before .before .before .before .before .before .before .before .before .before .before .before .before .before .before .before .before .before .before .before .before .before .before .before .before .before .before .args .tokens .now) (c .before .before .before .before .before .before .before .before .before .before .before .before .before .before .before .before .before .before .before .before .before .before .before .before .before .before .before .before .before .before .before .before .before .before .before .before .before .before .before .before .before .args .index .now)) (c .before .before .before .before .before .before .before .before .before .before .before .before .before .before .before .before .before .before .before .before .before .before .before .before .before .before .before .before .before .before .before .before .before .before .before .before .before .before .before .before .before .args .levels)) (c .before .before .before .before .before .before .before .before .before .before .before .before .before .before .before .before .before .before .before .before .before .before .before .before .before .before .before .before .before .before .before .before .before .before .before .before .before .before .before .before .before .args .looser) (c .before .before .before .before .before .before .before .before .before .before .before .before .before .before .before .before .before .before .before .before .before .before .before .before .before .loop .left) (c .before .before .before .before .before .before .before .before .before .before .before .before .before .before .before .before .before .before .before .before .before .before .before .before .before .loop .errors) (c .before .before .before .before .before .before .before .before .before .before .before .before .before .before .before .before .before .before .before .before .before .before .before .before .before .loop .nodes) (c .before .before .before .before .before .before .before .before .before .before .before .before .before .before .before .before .before .before .before .before .before .before .before .before .before .loop .s) (c .before .before .before .before .before .before .before .before .before .before .before .before .before .before .before .before .before .before .before .before .before .before .before .before .before .loop .inv .fuel) (c .before .before .before .before .before .before .before .before .before .before .before .before .before .before .before .before .before .before .before .before .before .before .before .before .before .loop .r) (c .before .before .before .before .before .before .before .before .before .before .before .before .before .before .before .before .before .before .before .before .before .before .before .before .before .loop .inv .within) in
+    rw (e, ← c .before .before .before .before .before .before .before .before .before .before .before .before .before .before .before .before .before .before .before .before .before .before .before .before .turn-at .ensures, c .before .before .before .before .before .before .before .before .before .before .before .before .before .before .before .before .before .before .before .before .before .before .turn .given .1) (rw (← c .before .before .before .before .before .before .before .before .before .before .before .before .before .before .before .before .before .before .at-token .ensures, ← c .before .before .before .before .before .before .before .before .before .before .before .before .before .before .before .before .before .binary .ensures, c .before .before .before .before .before .before .before .before .before .before .before .kh .given .1) (rw (← c .before .before .before .before .before .before .before .operation .ensures, ← c .before .before .before .before .before .before .make .ensures (c .before .before .before .before .before .before .before .before .before .before .before .before .before .before .before .before .before .binary .last .1 .0), c .before .before .km .given .1)))
 
 unary-requires : (t : ℕ) → binary-lts.Need-unary-requires (claims t) (binary-at t) binary.Post binary-Inv-loop binary-μ-loop
-unary-requires t c κs = omega (arith, c .before .before .before .before .before .pre)
+unary-requires t c κs = omega (arith, c .before .before .before .before .before .before .pre)
 
 enum-known-k : (t : ℕ) → binary-lts.Need-enum-known-k (claims t) (binary-at t) binary.Post binary-Inv-loop binary-μ-loop
 enum-known-k t c = search needs
@@ -80,42 +82,45 @@ same-length-2 t c = c .before .before .before .before .before .before .unary .ke
 
 returns : (t : ℕ) → binary-lts.Need-returns (claims t) (binary-at t) binary.Post binary-Inv-loop binary-μ-loop
 returns t c =
-    let a = turns-all (c .before .before .before .before .before .before .before .before .before .before .before .before .args .tokens .now) (lower (c .before .before .before .before .before .before .before .before .before .before .before .before .args .tokens .now) (c .before .before .before .before .before .before .before .before .before .before .before .before .args .levels)) (c .before .before .before .before .before .before .before .before .before .before .before .before .args .looser) (c .before .before .before .before .before .before .before .before .before .before .before .before .args .p) (c .before .before .before .before .before .before .before .before .before .before .before .before .args .errors .now) (c .before .before .before .before .before .before .before .before .before .before .before .before .args .nodes .now) in
+    let a = turns-all (indexed (c .before .before .before .before .before .before .before .before .before .before .before .before .before .args .tokens .now) (c .before .before .before .before .before .before .before .before .before .before .before .before .before .args .index .now)) (lower (indexed (c .before .before .before .before .before .before .before .before .before .before .before .before .before .args .tokens .now) (c .before .before .before .before .before .before .before .before .before .before .before .before .before .args .index .now)) (c .before .before .before .before .before .before .before .before .before .before .before .before .before .args .levels)) (c .before .before .before .before .before .before .before .before .before .before .before .before .before .args .looser) (c .before .before .before .before .before .before .before .before .before .before .before .before .before .args .p) (c .before .before .before .before .before .before .before .before .before .before .before .before .before .args .errors .now) (c .before .before .before .before .before .before .before .before .before .before .before .before .before .args .nodes .now) in
     rw (a, ← c .before .before .before .before .before .before .unary .ensures, c .enum-told .given .1)
 
 loop-holds : (t : ℕ) → binary-lts.Need-loop-holds (claims t) (binary-at t) binary.Post binary-Inv-loop binary-μ-loop
-loop-holds t c = record { fuel = count (c .before .before .before .before .before .before .before .before .before .before .before .before .before .before .args .tokens .now); enough = omega arith; within = omega arith; same = refl; errors = refl; nodes = refl }
+loop-holds t c = record { fuel = count (c .before .before .before .before .before .before .before .before .before .before .before .before .before .before .before .args .tokens .now); enough = omega arith; within = omega arith; same = refl; errors = refl; nodes = refl }
 
 turn-at-requires : (t : ℕ) → binary-lts.Need-turn-at-requires (claims t) (binary-at t) binary.Post binary-Inv-loop binary-μ-loop
 turn-at-requires t c κs = search needs
 
-enum-known-rank : (t : ℕ) → binary-lts.Need-enum-known-rank (claims t) (binary-at t) binary.Post binary-Inv-loop binary-μ-loop
-enum-known-rank t c = search needs
+enum-known-turn : (t : ℕ) → binary-lts.Need-enum-known-turn (claims t) (binary-at t) binary.Post binary-Inv-loop binary-μ-loop
+enum-known-turn t c = search needs
 
 enum-told-2 : (t : ℕ) → binary-lts.Need-enum-told-2 (claims t) (binary-at t) binary.Post binary-Inv-loop binary-μ-loop
 enum-told-2 t c = search needs
+
+looked-requires : (t : ℕ) → binary-lts.Need-looked-requires (claims t) (binary-at t) binary.Post binary-Inv-loop binary-μ-loop
+looked-requires t c κs = search needs
 
 found-requires : (t : ℕ) → binary-lts.Need-found-requires (claims t) (binary-at t) binary.Post binary-Inv-loop binary-μ-loop
 found-requires t c κs = search needs
 
 same-length-3 : (t : ℕ) → binary-lts.Need-same-length-3 (claims t) (binary-at t) binary.Post binary-Inv-loop binary-μ-loop
-same-length-3 t c = c .before .before .before .before .loop .inv .errors ∙ c .before .before .before .before .before .before .before .before .before .before .before .before .before .unary .kept .1 .0
+same-length-3 t c = c .before .before .before .before .before .loop .inv .errors ∙ c .before .before .before .before .before .before .before .before .before .before .before .before .before .before .unary .kept .1 .0
 
 same-length-4 : (t : ℕ) → binary-lts.Need-same-length-4 (claims t) (binary-at t) binary.Post binary-Inv-loop binary-μ-loop
-same-length-4 t c = c .before .before .before .before .loop .inv .nodes ∙ c .before .before .before .before .before .before .before .before .before .before .before .before .before .unary .kept .1 .1 .0
+same-length-4 t c = c .before .before .before .before .before .loop .inv .nodes ∙ c .before .before .before .before .before .before .before .before .before .before .before .before .before .before .unary .kept .1 .1 .0
 
 returns-2 : (t : ℕ) → binary-lts.Need-returns-2 (claims t) (binary-at t) binary.Post binary-Inv-loop binary-μ-loop
 returns-2 t c =
-    let e = turns (c .before .before .before .before .before .before .before .before .before .before .before .before .before .before .before .before .before .before .before .args .tokens .now) (lower (c .before .before .before .before .before .before .before .before .before .before .before .before .before .before .before .before .before .before .before .args .tokens .now) (c .before .before .before .before .before .before .before .before .before .before .before .before .before .before .before .before .before .before .before .args .levels)) (c .before .before .before .before .before .before .before .before .before .before .before .before .before .before .before .before .before .before .before .args .looser) (c .before .before .before .before .loop .left) (c .before .before .before .before .loop .s) (c .before .before .before .before .loop .errors) (c .before .before .before .before .loop .nodes) (c .before .before .before .before .loop .inv .fuel) (c .before .before .before .before .loop .r) (c .before .before .before .before .loop .inv .within) in
-    rw (head t (c .before .before .before .before), e, ← c .before .before .before .turn-at .ensures) (rw (c .before .enum-told2 .given .1, c .found .ensures))
+    let e = turns (indexed (c .before .before .before .before .before .before .before .before .before .before .before .before .before .before .before .before .before .before .before .before .before .args .tokens .now) (c .before .before .before .before .before .before .before .before .before .before .before .before .before .before .before .before .before .before .before .before .before .args .index .now)) (lower (indexed (c .before .before .before .before .before .before .before .before .before .before .before .before .before .before .before .before .before .before .before .before .before .args .tokens .now) (c .before .before .before .before .before .before .before .before .before .before .before .before .before .before .before .before .before .before .before .before .before .args .index .now)) (c .before .before .before .before .before .before .before .before .before .before .before .before .before .before .before .before .before .before .before .before .before .args .levels)) (c .before .before .before .before .before .before .before .before .before .before .before .before .before .before .before .before .before .before .before .before .before .args .looser) (c .before .before .before .before .before .loop .left) (c .before .before .before .before .before .loop .errors) (c .before .before .before .before .before .loop .nodes) (c .before .before .before .before .before .loop .s) (c .before .before .before .before .before .loop .inv .fuel) (c .before .before .before .before .before .loop .r) (c .before .before .before .before .before .loop .inv .within) in
+    rw (head t (c .before .before .before .before .before), e, ← c .before .before .before .before .turn-at .ensures) (rw (c .before .before .enum-told2 .given .1, ← c .before .looked .ensures, c .found .ensures))
 
 at-token-requires : (t : ℕ) → binary-lts.Need-at-token-requires (claims t) (binary-at t) binary.Post binary-Inv-loop binary-μ-loop
 at-token-requires t c κs = search needs
 
 binary-requires : (t : ℕ) → binary-lts.Need-binary-requires (claims t) (binary-at t) binary.Post binary-Inv-loop binary-μ-loop
 binary-requires t c κs =
-    let k = taken _ _ _ _ _ _ (c .before .before .before .before .before .before .before .loop .inv .within) (sym (c .before .before .before .before .before .before .turn-at .ensures) ∙ c .before .before .before .before .rank .given .1) in
-    omega (arith, c .before .before .before .before .before .before .before .before .before .before .before .before .before .before .before .before .before .before .before .before .before .before .pre, k .above, k .within, c .before .before .before .before .before .before .before .loop .inv .within)
+    let k = taken _ _ _ _ _ _ (c .before .before .before .before .before .before .before .loop .inv .within) (ap (λ (x : Tried). x .turn) (sym (c .before .before .before .before .before .before .turn-at .ensures)) ∙ c .before .before .before .before .turn .given .1) in
+    omega (arith, c .before .before .before .before .before .before .before .before .before .before .before .before .before .before .before .before .before .before .before .before .before .before .before .pre, k .above, k .within, c .before .before .before .before .before .before .before .loop .inv .within)
 
 enum-known-kh : (t : ℕ) → binary-lts.Need-enum-known-kh (claims t) (binary-at t) binary.Post binary-Inv-loop binary-μ-loop
 enum-known-kh t c = search needs
@@ -131,8 +136,8 @@ same-length-6 t c = c .before .before .before .before .before .before .binary .k
 
 returns-3 : (t : ℕ) → binary-lts.Need-returns-3 (claims t) (binary-at t) binary.Post binary-Inv-loop binary-μ-loop
 returns-3 t c =
-    let e = turns (c .before .before .before .before .before .before .before .before .before .before .before .before .before .before .before .before .before .before .before .before .before .before .before .before .before .before .before .before .before .args .tokens .now) (lower (c .before .before .before .before .before .before .before .before .before .before .before .before .before .before .before .before .before .before .before .before .before .before .before .before .before .before .before .before .before .args .tokens .now) (c .before .before .before .before .before .before .before .before .before .before .before .before .before .before .before .before .before .before .before .before .before .before .before .before .before .before .before .before .before .args .levels)) (c .before .before .before .before .before .before .before .before .before .before .before .before .before .before .before .before .before .before .before .before .before .before .before .before .before .before .before .before .before .args .looser) (c .before .before .before .before .before .before .before .before .before .before .before .before .before .before .loop .left) (c .before .before .before .before .before .before .before .before .before .before .before .before .before .before .loop .s) (c .before .before .before .before .before .before .before .before .before .before .before .before .before .before .loop .errors) (c .before .before .before .before .before .before .before .before .before .before .before .before .before .before .loop .nodes) (c .before .before .before .before .before .before .before .before .before .before .before .before .before .before .loop .inv .fuel) (c .before .before .before .before .before .before .before .before .before .before .before .before .before .before .loop .r) (c .before .before .before .before .before .before .before .before .before .before .before .before .before .before .loop .inv .within) in
-    rw (head t (c .before .before .before .before .before .before .before .before .before .before .before .before .before .before), e, ← c .before .before .before .before .before .before .before .before .before .before .before .before .before .turn-at .ensures) (rw (c .before .before .before .before .before .before .before .before .before .before .before .rank .given .1, ← c .before .before .before .before .before .before .before .at-token .ensures, ← c .before .before .before .before .before .before .binary .ensures) (rw (c .enum-told3 .given .1)))
+    let e = turns (indexed (c .before .before .before .before .before .before .before .before .before .before .before .before .before .before .before .before .before .before .before .before .before .before .before .before .before .before .before .before .before .before .args .tokens .now) (c .before .before .before .before .before .before .before .before .before .before .before .before .before .before .before .before .before .before .before .before .before .before .before .before .before .before .before .before .before .before .args .index .now)) (lower (indexed (c .before .before .before .before .before .before .before .before .before .before .before .before .before .before .before .before .before .before .before .before .before .before .before .before .before .before .before .before .before .before .args .tokens .now) (c .before .before .before .before .before .before .before .before .before .before .before .before .before .before .before .before .before .before .before .before .before .before .before .before .before .before .before .before .before .before .args .index .now)) (c .before .before .before .before .before .before .before .before .before .before .before .before .before .before .before .before .before .before .before .before .before .before .before .before .before .before .before .before .before .before .args .levels)) (c .before .before .before .before .before .before .before .before .before .before .before .before .before .before .before .before .before .before .before .before .before .before .before .before .before .before .before .before .before .before .args .looser) (c .before .before .before .before .before .before .before .before .before .before .before .before .before .before .loop .left) (c .before .before .before .before .before .before .before .before .before .before .before .before .before .before .loop .errors) (c .before .before .before .before .before .before .before .before .before .before .before .before .before .before .loop .nodes) (c .before .before .before .before .before .before .before .before .before .before .before .before .before .before .loop .s) (c .before .before .before .before .before .before .before .before .before .before .before .before .before .before .loop .inv .fuel) (c .before .before .before .before .before .before .before .before .before .before .before .before .before .before .loop .r) (c .before .before .before .before .before .before .before .before .before .before .before .before .before .before .loop .inv .within) in
+    rw (head t (c .before .before .before .before .before .before .before .before .before .before .before .before .before .before), e, ← c .before .before .before .before .before .before .before .before .before .before .before .before .before .turn-at .ensures) (rw (c .before .before .before .before .before .before .before .before .before .before .before .turn .given .1, ← c .before .before .before .before .before .before .before .at-token .ensures, ← c .before .before .before .before .before .before .binary .ensures) (rw (c .enum-told3 .given .1)))
 
 operation-requires : (t : ℕ) → binary-lts.Need-operation-requires (claims t) (binary-at t) binary.Post binary-Inv-loop binary-μ-loop
 operation-requires t c κs = search needs
@@ -154,8 +159,8 @@ same-length-8 t c = c .before .before .before .before .make .kept .0 ∙ c .befo
 
 returns-4 : (t : ℕ) → binary-lts.Need-returns-4 (claims t) (binary-at t) binary.Post binary-Inv-loop binary-μ-loop
 returns-4 t c =
-    let e = turns (c .before .before .before .before .before .before .before .before .before .before .before .before .before .before .before .before .before .before .before .before .before .before .before .before .before .before .before .before .before .before .before .before .before .before .before .before .before .before .args .tokens .now) (lower (c .before .before .before .before .before .before .before .before .before .before .before .before .before .before .before .before .before .before .before .before .before .before .before .before .before .before .before .before .before .before .before .before .before .before .before .before .before .before .args .tokens .now) (c .before .before .before .before .before .before .before .before .before .before .before .before .before .before .before .before .before .before .before .before .before .before .before .before .before .before .before .before .before .before .before .before .before .before .before .before .before .before .args .levels)) (c .before .before .before .before .before .before .before .before .before .before .before .before .before .before .before .before .before .before .before .before .before .before .before .before .before .before .before .before .before .before .before .before .before .before .before .before .before .before .args .looser) (c .before .before .before .before .before .before .before .before .before .before .before .before .before .before .before .before .before .before .before .before .before .before .before .loop .left) (c .before .before .before .before .before .before .before .before .before .before .before .before .before .before .before .before .before .before .before .before .before .before .before .loop .s) (c .before .before .before .before .before .before .before .before .before .before .before .before .before .before .before .before .before .before .before .before .before .before .before .loop .errors) (c .before .before .before .before .before .before .before .before .before .before .before .before .before .before .before .before .before .before .before .before .before .before .before .loop .nodes) (c .before .before .before .before .before .before .before .before .before .before .before .before .before .before .before .before .before .before .before .before .before .before .before .loop .inv .fuel) (c .before .before .before .before .before .before .before .before .before .before .before .before .before .before .before .before .before .before .before .before .before .before .before .loop .r) (c .before .before .before .before .before .before .before .before .before .before .before .before .before .before .before .before .before .before .before .before .before .before .before .loop .inv .within) in
-    rw (head t (c .before .before .before .before .before .before .before .before .before .before .before .before .before .before .before .before .before .before .before .before .before .before .before), e, ← c .before .before .before .before .before .before .before .before .before .before .before .before .before .before .before .before .before .before .before .before .before .before .turn-at .ensures) (rw (c .before .before .before .before .before .before .before .before .before .before .before .before .before .before .before .before .before .before .before .before .rank .given .1, ← c .before .before .before .before .before .before .before .before .before .before .before .before .before .before .before .before .at-token .ensures, ← c .before .before .before .before .before .before .before .before .before .before .before .before .before .before .before .binary .ensures) (rw (c .before .before .before .before .before .before .before .before .before .kh .given .1, ← c .before .before .before .before .before .operation .ensures, ← c .before .before .before .before .make .ensures (c .before .before .before .before .before .before .before .before .before .before .before .before .before .before .before .binary .last .1 .0)) (rw (c .enum-told4 .given .1))))
+    let e = turns (indexed (c .before .before .before .before .before .before .before .before .before .before .before .before .before .before .before .before .before .before .before .before .before .before .before .before .before .before .before .before .before .before .before .before .before .before .before .before .before .before .before .args .tokens .now) (c .before .before .before .before .before .before .before .before .before .before .before .before .before .before .before .before .before .before .before .before .before .before .before .before .before .before .before .before .before .before .before .before .before .before .before .before .before .before .before .args .index .now)) (lower (indexed (c .before .before .before .before .before .before .before .before .before .before .before .before .before .before .before .before .before .before .before .before .before .before .before .before .before .before .before .before .before .before .before .before .before .before .before .before .before .before .before .args .tokens .now) (c .before .before .before .before .before .before .before .before .before .before .before .before .before .before .before .before .before .before .before .before .before .before .before .before .before .before .before .before .before .before .before .before .before .before .before .before .before .before .before .args .index .now)) (c .before .before .before .before .before .before .before .before .before .before .before .before .before .before .before .before .before .before .before .before .before .before .before .before .before .before .before .before .before .before .before .before .before .before .before .before .before .before .before .args .levels)) (c .before .before .before .before .before .before .before .before .before .before .before .before .before .before .before .before .before .before .before .before .before .before .before .before .before .before .before .before .before .before .before .before .before .before .before .before .before .before .before .args .looser) (c .before .before .before .before .before .before .before .before .before .before .before .before .before .before .before .before .before .before .before .before .before .before .before .loop .left) (c .before .before .before .before .before .before .before .before .before .before .before .before .before .before .before .before .before .before .before .before .before .before .before .loop .errors) (c .before .before .before .before .before .before .before .before .before .before .before .before .before .before .before .before .before .before .before .before .before .before .before .loop .nodes) (c .before .before .before .before .before .before .before .before .before .before .before .before .before .before .before .before .before .before .before .before .before .before .before .loop .s) (c .before .before .before .before .before .before .before .before .before .before .before .before .before .before .before .before .before .before .before .before .before .before .before .loop .inv .fuel) (c .before .before .before .before .before .before .before .before .before .before .before .before .before .before .before .before .before .before .before .before .before .before .before .loop .r) (c .before .before .before .before .before .before .before .before .before .before .before .before .before .before .before .before .before .before .before .before .before .before .before .loop .inv .within) in
+    rw (head t (c .before .before .before .before .before .before .before .before .before .before .before .before .before .before .before .before .before .before .before .before .before .before .before), e, ← c .before .before .before .before .before .before .before .before .before .before .before .before .before .before .before .before .before .before .before .before .before .before .turn-at .ensures) (rw (c .before .before .before .before .before .before .before .before .before .before .before .before .before .before .before .before .before .before .before .before .turn .given .1, ← c .before .before .before .before .before .before .before .before .before .before .before .before .before .before .before .before .at-token .ensures, ← c .before .before .before .before .before .before .before .before .before .before .before .before .before .before .before .binary .ensures) (rw (c .before .before .before .before .before .before .before .before .before .kh .given .1, ← c .before .before .before .before .before .operation .ensures, ← c .before .before .before .before .make .ensures (c .before .before .before .before .before .before .before .before .before .before .before .before .before .before .before .binary .last .1 .0)) (rw (c .enum-told4 .given .1))))
 
 loop-less : (t : ℕ) → binary-lts.Need-loop-less (claims t) (binary-at t) binary.Post binary-Inv-loop binary-μ-loop
 loop-less t c = let g = passes t c in omega arith
@@ -163,10 +168,10 @@ loop-less t c = let g = passes t c in omega arith
 loop-again : (t : ℕ) → binary-lts.Need-loop-again (claims t) (binary-at t) binary.Post binary-Inv-loop binary-μ-loop
 loop-again t c =
     let g = passes t c in
-    let k = taken _ _ _ _ _ _ (c .before .before .before .before .before .before .before .before .before .before .before .before .before .before .before .before .before .before .before .before .before .before .before .before .before .loop .inv .within) (sym (c .before .before .before .before .before .before .before .before .before .before .before .before .before .before .before .before .before .before .before .before .before .before .before .before .turn-at .ensures) ∙ c .before .before .before .before .before .before .before .before .before .before .before .before .before .before .before .before .before .before .before .before .before .before .rank .given .1) in
-    let e = spare-enough (c .before .before .before .before .before .before .before .before .before .before .before .before .before .before .before .before .before .before .before .before .before .before .before .before .before .before .before .before .before .before .before .before .before .before .before .before .before .before .before .before .args .tokens .now) (c .before .before .before .before .before .before .before .before .before .before .before .before .before .before .before .before .before .before .before .before .before .before .before .before .before .loop .s .current) (c .before .before .before .before .before .before .before .before .before .before .before .before .before .before .before .before .before .before .before .before .before .before .before .before .before .loop .inv .fuel) (c .before .before .before .before .before .before .before .before .before .before .before .before .before .before .before .before .before .before .before .before .before .before .before .before .before .loop .r - c .before .before .before .before .before .before .before .before .before .before .before .before .before .before .before .before .before .before .before .before .before .before .rank .given .0 .0) (c .before .before .before .before .before .before .before .before .before .before .before .before .before .before .before .before .before .before .before .before .before .before .before .before .before .loop .inv .enough) in
-    let f : suc (spare (c .before .before .before .before .before .before .before .before .before .before .before .before .before .before .before .before .before .before .before .before .before .before .before .before .before .before .before .before .before .before .before .before .before .before .before .before .before .before .before .before .args .tokens .now) (c .before .before .before .before .before .before .before .before .before .before .before .before .before .before .before .before .before .before .before .before .before .before .before .before .before .loop .inv .fuel) (c .before .before .before .before .before .before .before .before .before .before .before .before .before .before .before .before .before .before .before .before .before .before .before .before .before .loop .r - c .before .before .before .before .before .before .before .before .before .before .before .before .before .before .before .before .before .before .before .before .before .before .rank .given .0 .0) - 1) ≡ spare (c .before .before .before .before .before .before .before .before .before .before .before .before .before .before .before .before .before .before .before .before .before .before .before .before .before .before .before .before .before .before .before .before .before .before .before .before .before .before .before .before .args .tokens .now) (c .before .before .before .before .before .before .before .before .before .before .before .before .before .before .before .before .before .before .before .before .before .before .before .before .before .loop .inv .fuel) (c .before .before .before .before .before .before .before .before .before .before .before .before .before .before .before .before .before .before .before .before .before .before .before .before .before .loop .r - c .before .before .before .before .before .before .before .before .before .before .before .before .before .before .before .before .before .before .before .before .before .before .rank .given .0 .0) = omega (arith, e) in
-    record { fuel = spare (c .before .before .before .before .before .before .before .before .before .before .before .before .before .before .before .before .before .before .before .before .before .before .before .before .before .before .before .before .before .before .before .before .before .before .before .before .before .before .before .before .args .tokens .now) (c .before .before .before .before .before .before .before .before .before .before .before .before .before .before .before .before .before .before .before .before .before .before .before .before .before .loop .inv .fuel) (c .before .before .before .before .before .before .before .before .before .before .before .before .before .before .before .before .before .before .before .before .before .before .before .before .before .loop .r - c .before .before .before .before .before .before .before .before .before .before .before .before .before .before .before .before .before .before .before .before .before .before .rank .given .0 .0) - 1; enough = omega (arith, e); within = omega (arith, k .within, c .before .before .before .before .before .before .before .before .before .before .before .before .before .before .before .before .before .before .before .before .before .before .before .before .before .loop .inv .within); same = rw f (again t c ∙ c .before .before .before .before .before .before .before .before .before .before .before .before .before .before .before .before .before .before .before .before .before .before .before .before .before .loop .inv .same); errors = c .before .before .before .before .before .before .before .before .before .before .before .before .before .before .before .before .before .binary .kept .1 .0 ∙ c .before .before .before .before .before .before .before .before .before .before .before .before .before .before .before .before .before .before .before .before .before .before .before .before .before .loop .inv .errors; nodes = c .before .before .before .before .before .before .make .kept .0 ∙ c .before .before .before .before .before .before .before .before .before .before .before .before .before .before .before .before .before .binary .kept .1 .1 .0 ∙ c .before .before .before .before .before .before .before .before .before .before .before .before .before .before .before .before .before .before .before .before .before .before .before .before .before .loop .inv .nodes }
+    let k = taken _ _ _ _ _ _ (c .before .before .before .before .before .before .before .before .before .before .before .before .before .before .before .before .before .before .before .before .before .before .before .before .before .loop .inv .within) (ap (λ (x : Tried). x .turn) (sym (c .before .before .before .before .before .before .before .before .before .before .before .before .before .before .before .before .before .before .before .before .before .before .before .before .turn-at .ensures)) ∙ c .before .before .before .before .before .before .before .before .before .before .before .before .before .before .before .before .before .before .before .before .before .before .turn .given .1) in
+    let e = spare-enough (indexed (c .before .before .before .before .before .before .before .before .before .before .before .before .before .before .before .before .before .before .before .before .before .before .before .before .before .before .before .before .before .before .before .before .before .before .before .before .before .before .before .before .before .args .tokens .now) (c .before .before .before .before .before .before .before .before .before .before .before .before .before .before .before .before .before .before .before .before .before .before .before .before .before .before .before .before .before .before .before .before .before .before .before .before .before .before .before .before .before .args .index .now)) (c .before .before .before .before .before .before .before .before .before .before .before .before .before .before .before .before .before .before .before .before .before .before .before .before .before .loop .s .current) (c .before .before .before .before .before .before .before .before .before .before .before .before .before .before .before .before .before .before .before .before .before .before .before .before .before .loop .inv .fuel) (c .before .before .before .before .before .before .before .before .before .before .before .before .before .before .before .before .before .before .before .before .before .before .before .before .before .loop .r - c .before .before .before .before .before .before .before .before .before .before .before .before .before .before .before .before .before .before .before .before .before .before .turn .given .0 .0) (c .before .before .before .before .before .before .before .before .before .before .before .before .before .before .before .before .before .before .before .before .before .before .before .before .before .loop .inv .enough) in
+    let f : suc (spare (indexed (c .before .before .before .before .before .before .before .before .before .before .before .before .before .before .before .before .before .before .before .before .before .before .before .before .before .before .before .before .before .before .before .before .before .before .before .before .before .before .before .before .before .args .tokens .now) (c .before .before .before .before .before .before .before .before .before .before .before .before .before .before .before .before .before .before .before .before .before .before .before .before .before .before .before .before .before .before .before .before .before .before .before .before .before .before .before .before .before .args .index .now)) (c .before .before .before .before .before .before .before .before .before .before .before .before .before .before .before .before .before .before .before .before .before .before .before .before .before .loop .inv .fuel) (c .before .before .before .before .before .before .before .before .before .before .before .before .before .before .before .before .before .before .before .before .before .before .before .before .before .loop .r - c .before .before .before .before .before .before .before .before .before .before .before .before .before .before .before .before .before .before .before .before .before .before .turn .given .0 .0) - 1) ≡ spare (indexed (c .before .before .before .before .before .before .before .before .before .before .before .before .before .before .before .before .before .before .before .before .before .before .before .before .before .before .before .before .before .before .before .before .before .before .before .before .before .before .before .before .before .args .tokens .now) (c .before .before .before .before .before .before .before .before .before .before .before .before .before .before .before .before .before .before .before .before .before .before .before .before .before .before .before .before .before .before .before .before .before .before .before .before .before .before .before .before .before .args .index .now)) (c .before .before .before .before .before .before .before .before .before .before .before .before .before .before .before .before .before .before .before .before .before .before .before .before .before .loop .inv .fuel) (c .before .before .before .before .before .before .before .before .before .before .before .before .before .before .before .before .before .before .before .before .before .before .before .before .before .loop .r - c .before .before .before .before .before .before .before .before .before .before .before .before .before .before .before .before .before .before .before .before .before .before .turn .given .0 .0) = omega (arith, e) in
+    record { fuel = spare (indexed (c .before .before .before .before .before .before .before .before .before .before .before .before .before .before .before .before .before .before .before .before .before .before .before .before .before .before .before .before .before .before .before .before .before .before .before .before .before .before .before .before .before .args .tokens .now) (c .before .before .before .before .before .before .before .before .before .before .before .before .before .before .before .before .before .before .before .before .before .before .before .before .before .before .before .before .before .before .before .before .before .before .before .before .before .before .before .before .before .args .index .now)) (c .before .before .before .before .before .before .before .before .before .before .before .before .before .before .before .before .before .before .before .before .before .before .before .before .before .loop .inv .fuel) (c .before .before .before .before .before .before .before .before .before .before .before .before .before .before .before .before .before .before .before .before .before .before .before .before .before .loop .r - c .before .before .before .before .before .before .before .before .before .before .before .before .before .before .before .before .before .before .before .before .before .before .turn .given .0 .0) - 1; enough = omega (arith, e); within = omega (arith, k .within, c .before .before .before .before .before .before .before .before .before .before .before .before .before .before .before .before .before .before .before .before .before .before .before .before .before .loop .inv .within); same = rw f (again t c ∙ c .before .before .before .before .before .before .before .before .before .before .before .before .before .before .before .before .before .before .before .before .before .before .before .before .before .loop .inv .same); errors = c .before .before .before .before .before .before .before .before .before .before .before .before .before .before .before .before .before .binary .kept .1 .0 ∙ c .before .before .before .before .before .before .before .before .before .before .before .before .before .before .before .before .before .before .before .before .before .before .before .before .before .loop .inv .errors; nodes = c .before .before .before .before .before .before .make .kept .0 ∙ c .before .before .before .before .before .before .before .before .before .before .before .before .before .before .before .before .before .binary .kept .1 .1 .0 ∙ c .before .before .before .before .before .before .before .before .before .before .before .before .before .before .before .before .before .before .before .before .before .before .before .before .before .loop .inv .nodes }
 
 pub binary-ok : {M : Type 1} (t : ℕ) → binary-lts.Closed (claims t) (binary-at t) binary.Post M
 binary-ok t = binary-lts.spec (claims t) (binary-at t) binary.Post
@@ -180,8 +185,9 @@ binary-ok t = binary-lts.spec (claims t) (binary-at t) binary.Post
     (returns t)
     (loop-holds t)
     (turn-at-requires t)
-    (enum-known-rank t)
+    (enum-known-turn t)
     (enum-told-2 t)
+    (looked-requires t)
     (found-requires t)
     (same-length-3 t)
     (same-length-4 t)

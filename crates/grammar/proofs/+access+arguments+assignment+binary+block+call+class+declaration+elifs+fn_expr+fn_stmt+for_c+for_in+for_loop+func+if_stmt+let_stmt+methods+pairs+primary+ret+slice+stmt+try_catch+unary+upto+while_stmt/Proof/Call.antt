@@ -6,9 +6,10 @@ use Prim.Native.Nat.{ℕ, suc, _+_, _-_, _≤_, _<_}
 use native.Mathlib.Omega.{arith}
 use lib.ListN.{length}
 use Rattle.parser.specs.declared.State.{State}
-use Rattle.parser.specs.Tokens.{count}
+use Rattle.parser.specs.Tokens.{View, indexed, count}
 use Rattle.parser.specs.declared.Out.{Out}
 use Rattle.parser.specs.declared.Found.{Found}
+use Rattle.parser.specs.declared.Got.the-variants.{Node}
 use Rattle.parser.specs.Tables.{Reply, reply, plain}
 use Rattle.parser.specs.Programs.{run}
 use Rattle.token.specs.Kind.{RightParen}
@@ -23,6 +24,7 @@ use Rattle.grammar.proofs.call.Reads as call
 use Rattle.grammar.proofs.+access+arguments+assignment+binary+block+call+class+declaration+elifs+fn_expr+fn_stmt+for_c+for_in+for_loop+func+if_stmt+let_stmt+methods+pairs+primary+ret+slice+stmt+try_catch+unary+upto+while_stmt.Lts-call as call-lts
 use Rattle.grammar.proofs.primary.Reads as primary
 use Rattle.parser.proofs.State.at_token.Reads as at-token-reads
+use Rattle.parser.proofs.State.looked.Reads as looked-reads
 use Rattle.parser.proofs.peek.Reads as peek-reads
 use Rattle.pieces.proofs.finish_call.Reads as finish-call-reads
 use Rattle.pieces.proofs.found.Reads as found-reads
@@ -31,77 +33,77 @@ use Rattle.grammar.proofs.+access+arguments+assignment+binary+block+cal
 use borrow.Author.Needs.{needs}
 
 abbrev claims : ℕ → call-lts.Claims
-claims t = (primary-below t, primary.Post, peek-reads.Asked, peek-reads.Learnt, at-token-reads.Asked, at-token-reads.Learnt, arguments-below t, arguments.Post, finish-call-reads.Asked, finish-call-reads.Learnt, get-reads.Asked, get-reads.Learnt, access-below t, access.Post, found-reads.Asked, found-reads.Learnt)
+claims t = (primary-below t, primary.Post, peek-reads.Asked, peek-reads.Learnt, at-token-reads.Asked, at-token-reads.Learnt, arguments-below t, arguments.Post, finish-call-reads.Asked, finish-call-reads.Learnt, get-reads.Asked, get-reads.Learnt, access-below t, access.Post, looked-reads.Asked, looked-reads.Learnt, found-reads.Asked, found-reads.Learnt)
 
 -- the turns that are left
-abbrev onFrom : List ℕ → ℕ → ℕ → Found → State → List ℕ → List ℕ → Reply
+abbrev onFrom : View → ℕ → ℕ → Found → State → List ℕ → List ℕ → Reply
 onFrom T l f e q E N = run T (lower T l) (callFrom T f e) q E N
 
 -- are the rest of the whole, with fuel for a turn for each token that is left
-record CallInv (T : List ℕ) (l : ℕ) (E₀ N₀ : List ℕ) (e₀ : Found) (q₀ : State) (E N : List ℕ) (e : Found) (q : State) : Type 0 where
+record CallInv (T : View) (l : ℕ) (E₀ N₀ : List ℕ) (e₀ : Found) (q₀ : State) (E N : List ℕ) (e : Found) (q : State) : Type 0 where
   fuel : ℕ
-  enough : count T - q .current ≤ fuel
-  same : onFrom T l (suc fuel) e q E N ≡ onFrom T l (suc (count T)) e₀ q₀ E₀ N₀
+  enough : count (T .tokens) - q .current ≤ fuel
+  same : onFrom T l (suc fuel) e q E N ≡ onFrom T l (suc (count (T .tokens))) e₀ q₀ E₀ N₀
   errors : length E ≡ length E₀
   nodes : length N ≡ length N₀
 
 abbrev call-Inv-loop : call-lts.InvT-loop
-call-Inv-loop tokens errors₀ nodes₀ levels e₀ q₀ errors nodes e q = CallInv tokens levels errors₀ nodes₀ e₀ q₀ errors nodes e q
+call-Inv-loop tokens errors₀ nodes₀ index levels e₀ q₀ errors nodes e q = CallInv (indexed tokens index) levels errors₀ nodes₀ e₀ q₀ errors nodes e q
 
 abbrev call-μ-loop : call-lts.MeasureT-loop
-call-μ-loop tokens errors₀ nodes₀ levels e₀ q₀ errors nodes e q = count tokens - q .current
+call-μ-loop tokens errors₀ nodes₀ index levels e₀ q₀ errors nodes e q = count tokens - q .current
 
 -- at the loop's head what is left is the whole
-head : (t : ℕ) (c : call-lts.At-loop (claims t) (call-at t) call.Post call-Inv-loop call-μ-loop) → run (c .before .before .before .before .before .before .before .before .before .before .before .before .before .before .before .args .tokens .now) (lower (c .before .before .before .before .before .before .before .before .before .before .before .before .before .before .before .args .tokens .now) (c .before .before .before .before .before .before .before .before .before .before .before .before .before .before .before .args .levels)) (call (c .before .before .before .before .before .before .before .before .before .before .before .before .before .before .before .args .tokens .now)) (c .before .before .before .before .before .before .before .before .before .before .before .before .before .before .before .args .p) (c .before .before .before .before .before .before .before .before .before .before .before .before .before .before .before .args .errors .now) (c .before .before .before .before .before .before .before .before .before .before .before .before .before .before .before .args .nodes .now) ≡ onFrom (c .before .before .before .before .before .before .before .before .before .before .before .before .before .before .before .args .tokens .now) (c .before .before .before .before .before .before .before .before .before .before .before .before .before .before .before .args .levels) (suc (c .loop .inv .fuel)) (c .loop .e) (c .loop .q) (c .loop .errors) (c .loop .nodes)
+head : (t : ℕ) (c : call-lts.At-loop (claims t) (call-at t) call.Post call-Inv-loop call-μ-loop) → run (indexed (c .before .before .before .before .before .before .before .before .before .before .before .before .before .before .before .before .args .tokens .now) (c .before .before .before .before .before .before .before .before .before .before .before .before .before .before .before .before .args .index .now)) (lower (indexed (c .before .before .before .before .before .before .before .before .before .before .before .before .before .before .before .before .args .tokens .now) (c .before .before .before .before .before .before .before .before .before .before .before .before .before .before .before .before .args .index .now)) (c .before .before .before .before .before .before .before .before .before .before .before .before .before .before .before .before .args .levels)) (call (indexed (c .before .before .before .before .before .before .before .before .before .before .before .before .before .before .before .before .args .tokens .now) (c .before .before .before .before .before .before .before .before .before .before .before .before .before .before .before .before .args .index .now))) (c .before .before .before .before .before .before .before .before .before .before .before .before .before .before .before .before .args .p) (c .before .before .before .before .before .before .before .before .before .before .before .before .before .before .before .before .args .errors .now) (c .before .before .before .before .before .before .before .before .before .before .before .before .before .before .before .before .args .nodes .now) ≡ onFrom (indexed (c .before .before .before .before .before .before .before .before .before .before .before .before .before .before .before .before .args .tokens .now) (c .before .before .before .before .before .before .before .before .before .before .before .before .before .before .before .before .args .index .now)) (c .before .before .before .before .before .before .before .before .before .before .before .before .before .before .before .before .args .levels) (suc (c .loop .inv .fuel)) (c .loop .e) (c .loop .q) (c .loop .errors) (c .loop .nodes)
 unfolding run call
 head t c = rw (← c .before .before .before .before .before .before .before .before .before .primary .ensures, c .before .before .before .k .given .1) (sym (c .loop .inv .same))
 
-turn : (t : ℕ) (c : call-lts.After-q2 (claims t) (call-at t) call.Post call-Inv-loop call-μ-loop) → (c .before .before .before .before .before .before .before .before .before .before .before .before .before .before .before .before .before .before .before .before .before .loop .q .current < c .before .before .before .before .before .before .before .before .finish-call .result .p .current) × (c .before .before .before .before .before .before .before .before .before .before .before .before .before .before .before .before .before .before .before .before .before .loop .q .current < count (c .before .before .before .before .before .before .before .before .before .before .before .before .before .before .before .before .before .before .before .before .before .before .before .before .before .before .before .before .before .before .before .before .before .before .before .before .args .tokens .now))
+turn : (t : ℕ) (c : call-lts.After-q2 (claims t) (call-at t) call.Post call-Inv-loop call-μ-loop) → (c .before .before .before .before .before .before .before .before .before .before .before .before .before .before .before .before .before .before .before .before .before .loop .q .current < c .before .before .before .before .before .before .before .before .finish-call .result .p .current) × (c .before .before .before .before .before .before .before .before .before .before .before .before .before .before .before .before .before .before .before .before .before .loop .q .current < count (c .before .before .before .before .before .before .before .before .before .before .before .before .before .before .before .before .before .before .before .before .before .before .before .before .before .before .before .before .before .before .before .before .before .before .before .before .before .args .tokens .now))
 turn t c =
-    let n = peeked (c .before .before .before .before .before .before .before .before .before .before .before .before .before .before .before .before .before .before .before .before .before .before .before .before .before .before .before .before .before .before .before .before .before .before .before .before .args .tokens .now) (c .before .before .before .before .before .before .before .before .before .before .before .before .before .before .before .before .before .before .before .before .before .loop .q .current) _ (c .before .before .before .before .before .before .before .before .before .before .before .before .before .before .before .before .before .before .before .before .peek .ensures) in
+    let n = peeked (indexed (c .before .before .before .before .before .before .before .before .before .before .before .before .before .before .before .before .before .before .before .before .before .before .before .before .before .before .before .before .before .before .before .before .before .before .before .before .before .args .tokens .now) (c .before .before .before .before .before .before .before .before .before .before .before .before .before .before .before .before .before .before .before .before .before .before .before .before .before .before .before .before .before .before .before .before .before .before .before .before .before .args .index .now)) (c .before .before .before .before .before .before .before .before .before .before .before .before .before .before .before .before .before .before .before .before .before .loop .q .current) _ (c .before .before .before .before .before .before .before .before .before .before .before .before .before .before .before .before .before .before .before .before .peek .ensures) in
     let g = next-past _ _ _ _ _ n (c .before .before .before .before .before .before .before .before .before .before .before .before .before .before .before .before .before .before .before .if1 .taken) refl refl in
     let a = ap (λ (x : State). x .current) (c .before .before .before .before .before .before .before .before .before .before .before .before .before .before .before .before .at-token .ensures) in
-    let b = not-back (c .before .before .before .before .before .before .before .before .before .before .before .before .before .before .before .before .before .before .before .before .before .before .before .before .before .before .before .before .before .before .before .before .before .before .before .before .args .tokens .now) (c .before .before .before .before .before .before .before .before .before .before .before .before .before .before .before .before .before .before .before .before .before .before .before .before .before .before .before .before .before .before .before .before .before .before .before .before .args .levels) (arguments (c .before .before .before .before .before .before .before .before .before .before .before .before .before .before .before .before .before .before .before .before .before .before .before .before .before .before .before .before .before .before .before .before .before .before .before .before .args .tokens .now) RightParen) (c .before .before .before .before .before .before .before .before .before .before .before .before .before .before .before .before .at-token .result) (c .before .before .before .before .before .before .before .before .before .before .before .before .before .before .before .arguments .result .p) _ _ _ _ _ (c .before .before .before .before .before .before .before .before .before .before .before .before .before .before .before .arguments .ensures) in
-    let d = ends-on (c .before .before .before .before .before .before .before .before .before .before .before .before .before .before .before .before .before .before .before .before .before .before .before .before .before .before .before .before .before .before .before .before .before .before .before .before .args .tokens .now) (c .before .before .before .before .before .before .before .before .before .before .before .before .before .before .before .before .before .before .before .before .before .before .before .before .before .before .before .before .before .before .before .before .before .before .before .before .args .levels) (λ e. callEnd (c .before .before .before .before .before .before .before .before .before .before .before .before .before .before .before .before .before .before .before .before .before .loop .e .node) e) (c .before .before .before .before .before .before .before .before .before .before .before .before .before .before .before .arguments .result .p) (c .before .before .before .before .before .before .before .before .finish-call .result .p) (c .before .before .before .before .before .before .before .before .before .before .before .before .before .before .before .arguments .result .got) (c .before .before .before .before .before .before .before .before .finish-call .result .got) (c .before .before .before .before .before .before .before .before .before .before .before .before .before .before .before .arguments .last .1 .0) (c .before .before .before .before .before .before .before .before .before .before .before .before .before .before .before .arguments .last .1 .1 .0) (c .before .before .before .before .before .before .before .before .finish-call .last .1 .0) (c .before .before .before .before .before .before .before .before .finish-call .last .1 .1 .0) (c .before .before .before .before .before .before .before .before .finish-call .ensures (lower (c .before .before .before .before .before .before .before .before .before .before .before .before .before .before .before .before .before .before .before .before .before .before .before .before .before .before .before .before .before .before .before .before .before .before .before .before .args .tokens .now) (c .before .before .before .before .before .before .before .before .before .before .before .before .before .before .before .before .before .before .before .before .before .before .before .before .before .before .before .before .before .before .before .before .before .before .before .before .args .levels))) in
+    let b = not-back (indexed (c .before .before .before .before .before .before .before .before .before .before .before .before .before .before .before .before .before .before .before .before .before .before .before .before .before .before .before .before .before .before .before .before .before .before .before .before .before .args .tokens .now) (c .before .before .before .before .before .before .before .before .before .before .before .before .before .before .before .before .before .before .before .before .before .before .before .before .before .before .before .before .before .before .before .before .before .before .before .before .before .args .index .now)) (c .before .before .before .before .before .before .before .before .before .before .before .before .before .before .before .before .before .before .before .before .before .before .before .before .before .before .before .before .before .before .before .before .before .before .before .before .before .args .levels) (arguments (indexed (c .before .before .before .before .before .before .before .before .before .before .before .before .before .before .before .before .before .before .before .before .before .before .before .before .before .before .before .before .before .before .before .before .before .before .before .before .before .args .tokens .now) (c .before .before .before .before .before .before .before .before .before .before .before .before .before .before .before .before .before .before .before .before .before .before .before .before .before .before .before .before .before .before .before .before .before .before .before .before .before .args .index .now)) RightParen) (c .before .before .before .before .before .before .before .before .before .before .before .before .before .before .before .before .at-token .result) (c .before .before .before .before .before .before .before .before .before .before .before .before .before .before .before .arguments .result .p) _ _ _ _ _ (c .before .before .before .before .before .before .before .before .before .before .before .before .before .before .before .arguments .ensures) in
+    let d = ends-on (indexed (c .before .before .before .before .before .before .before .before .before .before .before .before .before .before .before .before .before .before .before .before .before .before .before .before .before .before .before .before .before .before .before .before .before .before .before .before .before .args .tokens .now) (c .before .before .before .before .before .before .before .before .before .before .before .before .before .before .before .before .before .before .before .before .before .before .before .before .before .before .before .before .before .before .before .before .before .before .before .before .before .args .index .now)) (c .before .before .before .before .before .before .before .before .before .before .before .before .before .before .before .before .before .before .before .before .before .before .before .before .before .before .before .before .before .before .before .before .before .before .before .before .before .args .levels) (λ e. callEnd (c .before .before .before .before .before .before .before .before .before .before .before .before .before .before .before .before .before .before .before .before .before .loop .e .node) e) (c .before .before .before .before .before .before .before .before .before .before .before .before .before .before .before .arguments .result .p) (c .before .before .before .before .before .before .before .before .finish-call .result .p) (c .before .before .before .before .before .before .before .before .before .before .before .before .before .before .before .arguments .result .got) (c .before .before .before .before .before .before .before .before .finish-call .result .got) (c .before .before .before .before .before .before .before .before .before .before .before .before .before .before .before .arguments .last .1 .0) (c .before .before .before .before .before .before .before .before .before .before .before .before .before .before .before .arguments .last .1 .1 .0) (c .before .before .before .before .before .before .before .before .finish-call .last .1 .0) (c .before .before .before .before .before .before .before .before .finish-call .last .1 .1 .0) (c .before .before .before .before .before .before .before .before .finish-call .ensures (lower (indexed (c .before .before .before .before .before .before .before .before .before .before .before .before .before .before .before .before .before .before .before .before .before .before .before .before .before .before .before .before .before .before .before .before .before .before .before .before .before .args .tokens .now) (c .before .before .before .before .before .before .before .before .before .before .before .before .before .before .before .before .before .before .before .before .before .before .before .before .before .before .before .before .before .before .before .before .before .before .before .before .before .args .index .now)) (c .before .before .before .before .before .before .before .before .before .before .before .before .before .before .before .before .before .before .before .before .before .before .before .before .before .before .before .before .before .before .before .before .before .before .before .before .before .args .levels))) in
     (omega arith, g .1)
 
-again : (t : ℕ) (c : call-lts.After-q2 (claims t) (call-at t) call.Post call-Inv-loop call-μ-loop) → onFrom (c .before .before .before .before .before .before .before .before .before .before .before .before .before .before .before .before .before .before .before .before .before .before .before .before .before .before .before .before .before .before .before .before .before .before .before .before .args .tokens .now) (c .before .before .before .before .before .before .before .before .before .before .before .before .before .before .before .before .before .before .before .before .before .before .before .before .before .before .before .before .before .before .before .before .before .before .before .before .args .levels) (c .before .before .before .before .before .before .before .before .before .before .before .before .before .before .before .before .before .before .before .before .before .loop .inv .fuel) (c .before .before .kh .given .0 .0) (c .before .before .before .before .before .before .before .before .finish-call .result .p) (c .before .before .before .before .before .before .before .before .finish-call .last .1 .0) (c .before .before .before .before .before .before .before .before .finish-call .last .1 .1 .0) ≡ onFrom (c .before .before .before .before .before .before .before .before .before .before .before .before .before .before .before .before .before .before .before .before .before .before .before .before .before .before .before .before .before .before .before .before .before .before .before .before .args .tokens .now) (c .before .before .before .before .before .before .before .before .before .before .before .before .before .before .before .before .before .before .before .before .before .before .before .before .before .before .before .before .before .before .before .before .before .before .before .before .args .levels) (suc (c .before .before .before .before .before .before .before .before .before .before .before .before .before .before .before .before .before .before .before .before .before .loop .inv .fuel)) (c .before .before .before .before .before .before .before .before .before .before .before .before .before .before .before .before .before .before .before .before .before .loop .e) (c .before .before .before .before .before .before .before .before .before .before .before .before .before .before .before .before .before .before .before .before .before .loop .q) (c .before .before .before .before .before .before .before .before .before .before .before .before .before .before .before .before .before .before .before .before .before .loop .errors) (c .before .before .before .before .before .before .before .before .before .before .before .before .before .before .before .before .before .before .before .before .before .loop .nodes)
+again : (t : ℕ) (c : call-lts.After-q2 (claims t) (call-at t) call.Post call-Inv-loop call-μ-loop) → onFrom (indexed (c .before .before .before .before .before .before .before .before .before .before .before .before .before .before .before .before .before .before .before .before .before .before .before .before .before .before .before .before .before .before .before .before .before .before .before .before .before .args .tokens .now) (c .before .before .before .before .before .before .before .before .before .before .before .before .before .before .before .before .before .before .before .before .before .before .before .before .before .before .before .before .before .before .before .before .before .before .before .before .before .args .index .now)) (c .before .before .before .before .before .before .before .before .before .before .before .before .before .before .before .before .before .before .before .before .before .before .before .before .before .before .before .before .before .before .before .before .before .before .before .before .before .args .levels) (c .before .before .before .before .before .before .before .before .before .before .before .before .before .before .before .before .before .before .before .before .before .loop .inv .fuel) (c .before .before .kh .given .0 .0) (c .before .before .before .before .before .before .before .before .finish-call .result .p) (c .before .before .before .before .before .before .before .before .finish-call .last .1 .0) (c .before .before .before .before .before .before .before .before .finish-call .last .1 .1 .0) ≡ onFrom (indexed (c .before .before .before .before .before .before .before .before .before .before .before .before .before .before .before .before .before .before .before .before .before .before .before .before .before .before .before .before .before .before .before .before .before .before .before .before .before .args .tokens .now) (c .before .before .before .before .before .before .before .before .before .before .before .before .before .before .before .before .before .before .before .before .before .before .before .before .before .before .before .before .before .before .before .before .before .before .before .before .before .args .index .now)) (c .before .before .before .before .before .before .before .before .before .before .before .before .before .before .before .before .before .before .before .before .before .before .before .before .before .before .before .before .before .before .before .before .before .before .before .before .before .args .levels) (suc (c .before .before .before .before .before .before .before .before .before .before .before .before .before .before .before .before .before .before .before .before .before .loop .inv .fuel)) (c .before .before .before .before .before .before .before .before .before .before .before .before .before .before .before .before .before .before .before .before .before .loop .e) (c .before .before .before .before .before .before .before .before .before .before .before .before .before .before .before .before .before .before .before .before .before .loop .q) (c .before .before .before .before .before .before .before .before .before .before .before .before .before .before .before .before .before .before .before .before .before .loop .errors) (c .before .before .before .before .before .before .before .before .before .before .before .before .before .before .before .before .before .before .before .before .before .loop .nodes)
 unfolding run finishCall
 again t c =
-    let n = peeked (c .before .before .before .before .before .before .before .before .before .before .before .before .before .before .before .before .before .before .before .before .before .before .before .before .before .before .before .before .before .before .before .before .before .before .before .before .args .tokens .now) (c .before .before .before .before .before .before .before .before .before .before .before .before .before .before .before .before .before .before .before .before .before .loop .q .current) _ (c .before .before .before .before .before .before .before .before .before .before .before .before .before .before .before .before .before .before .before .before .peek .ensures) in
-    let e = call-paren (c .before .before .before .before .before .before .before .before .before .before .before .before .before .before .before .before .before .before .before .before .before .before .before .before .before .before .before .before .before .before .before .before .before .before .before .before .args .tokens .now) (lower (c .before .before .before .before .before .before .before .before .before .before .before .before .before .before .before .before .before .before .before .before .before .before .before .before .before .before .before .before .before .before .before .before .before .before .before .before .args .tokens .now) (c .before .before .before .before .before .before .before .before .before .before .before .before .before .before .before .before .before .before .before .before .before .before .before .before .before .before .before .before .before .before .before .before .before .before .before .before .args .levels)) (c .before .before .before .before .before .before .before .before .before .before .before .before .before .before .before .before .before .before .before .before .before .loop .inv .fuel) (c .before .before .before .before .before .before .before .before .before .before .before .before .before .before .before .before .before .before .before .before .before .loop .e) (c .before .before .before .before .before .before .before .before .before .before .before .before .before .before .before .before .before .before .before .before .before .loop .q) (c .before .before .before .before .before .before .before .before .before .before .before .before .before .before .before .before .before .before .before .before .before .loop .errors) (c .before .before .before .before .before .before .before .before .before .before .before .before .before .before .before .before .before .before .before .before .before .loop .nodes) _ _ n (c .before .before .before .before .before .before .before .before .before .before .before .before .before .before .before .before .before .before .before .if1 .taken) in
-    rw (e, ← c .before .before .before .before .before .before .before .before .before .before .before .before .before .before .before .before .at-token .ensures, ← c .before .before .before .before .before .before .before .before .before .before .before .before .before .before .before .arguments .ensures) (rw (← c .before .before .before .before .before .before .before .before .finish-call .ensures (lower (c .before .before .before .before .before .before .before .before .before .before .before .before .before .before .before .before .before .before .before .before .before .before .before .before .before .before .before .before .before .before .before .before .before .before .before .before .args .tokens .now) (c .before .before .before .before .before .before .before .before .before .before .before .before .before .before .before .before .before .before .before .before .before .before .before .before .before .before .before .before .before .before .before .before .before .before .before .before .args .levels)), c .before .before .kh .given .1))
+    let n = peeked (indexed (c .before .before .before .before .before .before .before .before .before .before .before .before .before .before .before .before .before .before .before .before .before .before .before .before .before .before .before .before .before .before .before .before .before .before .before .before .before .args .tokens .now) (c .before .before .before .before .before .before .before .before .before .before .before .before .before .before .before .before .before .before .before .before .before .before .before .before .before .before .before .before .before .before .before .before .before .before .before .before .before .args .index .now)) (c .before .before .before .before .before .before .before .before .before .before .before .before .before .before .before .before .before .before .before .before .before .loop .q .current) _ (c .before .before .before .before .before .before .before .before .before .before .before .before .before .before .before .before .before .before .before .before .peek .ensures) in
+    let e = call-paren (indexed (c .before .before .before .before .before .before .before .before .before .before .before .before .before .before .before .before .before .before .before .before .before .before .before .before .before .before .before .before .before .before .before .before .before .before .before .before .before .args .tokens .now) (c .before .before .before .before .before .before .before .before .before .before .before .before .before .before .before .before .before .before .before .before .before .before .before .before .before .before .before .before .before .before .before .before .before .before .before .before .before .args .index .now)) (lower (indexed (c .before .before .before .before .before .before .before .before .before .before .before .before .before .before .before .before .before .before .before .before .before .before .before .before .before .before .before .before .before .before .before .before .before .before .before .before .before .args .tokens .now) (c .before .before .before .before .before .before .before .before .before .before .before .before .before .before .before .before .before .before .before .before .before .before .before .before .before .before .before .before .before .before .before .before .before .before .before .before .before .args .index .now)) (c .before .before .before .before .before .before .before .before .before .before .before .before .before .before .before .before .before .before .before .before .before .before .before .before .before .before .before .before .before .before .before .before .before .before .before .before .before .args .levels)) (c .before .before .before .before .before .before .before .before .before .before .before .before .before .before .before .before .before .before .before .before .before .loop .inv .fuel) (c .before .before .before .before .before .before .before .before .before .before .before .before .before .before .before .before .before .before .before .before .before .loop .e) (c .before .before .before .before .before .before .before .before .before .before .before .before .before .before .before .before .before .before .before .before .before .loop .q) (c .before .before .before .before .before .before .before .before .before .before .before .before .before .before .before .before .before .before .before .before .before .loop .errors) (c .before .before .before .before .before .before .before .before .before .before .before .before .before .before .before .before .before .before .before .before .before .loop .nodes) _ _ n (c .before .before .before .before .before .before .before .before .before .before .before .before .before .before .before .before .before .before .before .if1 .taken) in
+    rw (e, ← c .before .before .before .before .before .before .before .before .before .before .before .before .before .before .before .before .at-token .ensures, ← c .before .before .before .before .before .before .before .before .before .before .before .before .before .before .before .arguments .ensures) (rw (← c .before .before .before .before .before .before .before .before .finish-call .ensures (lower (indexed (c .before .before .before .before .before .before .before .before .before .before .before .before .before .before .before .before .before .before .before .before .before .before .before .before .before .before .before .before .before .before .before .before .before .before .before .before .before .args .tokens .now) (c .before .before .before .before .before .before .before .before .before .before .before .before .before .before .before .before .before .before .before .before .before .before .before .before .before .before .before .before .before .before .before .before .before .before .before .before .before .args .index .now)) (c .before .before .before .before .before .before .before .before .before .before .before .before .before .before .before .before .before .before .before .before .before .before .before .before .before .before .before .before .before .before .before .before .before .before .before .before .before .args .levels)), c .before .before .kh .given .1))
 
-turn-2 : (t : ℕ) (c : call-lts.After-q3 (claims t) (call-at t) call.Post call-Inv-loop call-μ-loop) → (c .before .before .before .before .before .before .before .before .before .before .before .before .before .before .before .loop .q .current < c .before .before .before .before .before .before .before .before .get .result .p .current) × (c .before .before .before .before .before .before .before .before .before .before .before .before .before .before .before .loop .q .current < count (c .before .before .before .before .before .before .before .before .before .before .before .before .before .before .before .before .before .before .before .before .before .before .before .before .before .before .before .before .before .before .args .tokens .now))
+turn-2 : (t : ℕ) (c : call-lts.After-q3 (claims t) (call-at t) call.Post call-Inv-loop call-μ-loop) → (c .before .before .before .before .before .before .before .before .before .before .before .before .before .before .before .loop .q .current < c .before .before .before .before .before .before .before .before .get .result .p .current) × (c .before .before .before .before .before .before .before .before .before .before .before .before .before .before .before .loop .q .current < count (c .before .before .before .before .before .before .before .before .before .before .before .before .before .before .before .before .before .before .before .before .before .before .before .before .before .before .before .before .before .before .before .args .tokens .now))
 turn-2 t c =
-    let n = peeked (c .before .before .before .before .before .before .before .before .before .before .before .before .before .before .before .before .before .before .before .before .before .before .before .before .before .before .before .before .before .before .args .tokens .now) (c .before .before .before .before .before .before .before .before .before .before .before .before .before .before .before .loop .q .current) _ (c .before .before .before .before .before .before .before .before .before .before .before .before .before .before .peek .ensures) in
+    let n = peeked (indexed (c .before .before .before .before .before .before .before .before .before .before .before .before .before .before .before .before .before .before .before .before .before .before .before .before .before .before .before .before .before .before .before .args .tokens .now) (c .before .before .before .before .before .before .before .before .before .before .before .before .before .before .before .before .before .before .before .before .before .before .before .before .before .before .before .before .before .before .before .args .index .now)) (c .before .before .before .before .before .before .before .before .before .before .before .before .before .before .before .loop .q .current) _ (c .before .before .before .before .before .before .before .before .before .before .before .before .before .before .peek .ensures) in
     let g = next-past _ _ _ _ _ n (c .before .before .before .before .before .before .before .before .before .before .before .before .if2 .taken) refl refl in
     let a = ap (λ (x : State). x .current) (c .before .before .before .before .before .before .before .before .before .at-token2 .ensures) in
-    let b = not-back (c .before .before .before .before .before .before .before .before .before .before .before .before .before .before .before .before .before .before .before .before .before .before .before .before .before .before .before .before .before .before .args .tokens .now) (c .before .before .before .before .before .before .before .before .before .before .before .before .before .before .before .before .before .before .before .before .before .before .before .before .before .before .before .before .before .before .args .levels) (get (c .before .before .before .before .before .before .before .before .before .before .before .before .before .before .before .loop .e .node)) _ _ _ _ _ _ _ (c .before .before .before .before .before .before .before .before .get .ensures (lower (c .before .before .before .before .before .before .before .before .before .before .before .before .before .before .before .before .before .before .before .before .before .before .before .before .before .before .before .before .before .before .args .tokens .now) (c .before .before .before .before .before .before .before .before .before .before .before .before .before .before .before .before .before .before .before .before .before .before .before .before .before .before .before .before .before .before .args .levels))) in
+    let b = not-back (indexed (c .before .before .before .before .before .before .before .before .before .before .before .before .before .before .before .before .before .before .before .before .before .before .before .before .before .before .before .before .before .before .before .args .tokens .now) (c .before .before .before .before .before .before .before .before .before .before .before .before .before .before .before .before .before .before .before .before .before .before .before .before .before .before .before .before .before .before .before .args .index .now)) (c .before .before .before .before .before .before .before .before .before .before .before .before .before .before .before .before .before .before .before .before .before .before .before .before .before .before .before .before .before .before .before .args .levels) (get (c .before .before .before .before .before .before .before .before .before .before .before .before .before .before .before .loop .e .node)) _ _ _ _ _ _ _ (c .before .before .before .before .before .before .before .before .get .ensures (lower (indexed (c .before .before .before .before .before .before .before .before .before .before .before .before .before .before .before .before .before .before .before .before .before .before .before .before .before .before .before .before .before .before .before .args .tokens .now) (c .before .before .before .before .before .before .before .before .before .before .before .before .before .before .before .before .before .before .before .before .before .before .before .before .before .before .before .before .before .before .before .args .index .now)) (c .before .before .before .before .before .before .before .before .before .before .before .before .before .before .before .before .before .before .before .before .before .before .before .before .before .before .before .before .before .before .before .args .levels))) in
     (omega arith, g .1)
 
-again-2 : (t : ℕ) (c : call-lts.After-q3 (claims t) (call-at t) call.Post call-Inv-loop call-μ-loop) → onFrom (c .before .before .before .before .before .before .before .before .before .before .before .before .before .before .before .before .before .before .before .before .before .before .before .before .before .before .before .before .before .before .args .tokens .now) (c .before .before .before .before .before .before .before .before .before .before .before .before .before .before .before .before .before .before .before .before .before .before .before .before .before .before .before .before .before .before .args .levels) (c .before .before .before .before .before .before .before .before .before .before .before .before .before .before .before .loop .inv .fuel) (c .before .before .kh2 .given .0 .0) (c .before .before .before .before .before .before .before .before .get .result .p) (c .before .before .before .before .before .before .before .before .get .last .1 .0) (c .before .before .before .before .before .before .before .before .get .last .1 .1 .0) ≡ onFrom (c .before .before .before .before .before .before .before .before .before .before .before .before .before .before .before .before .before .before .before .before .before .before .before .before .before .before .before .before .before .before .args .tokens .now) (c .before .before .before .before .before .before .before .before .before .before .before .before .before .before .before .before .before .before .before .before .before .before .before .before .before .before .before .before .before .before .args .levels) (suc (c .before .before .before .before .before .before .before .before .before .before .before .before .before .before .before .loop .inv .fuel)) (c .before .before .before .before .before .before .before .before .before .before .before .before .before .before .before .loop .e) (c .before .before .before .before .before .before .before .before .before .before .before .before .before .before .before .loop .q) (c .before .before .before .before .before .before .before .before .before .before .before .before .before .before .before .loop .errors) (c .before .before .before .before .before .before .before .before .before .before .before .before .before .before .before .loop .nodes)
+again-2 : (t : ℕ) (c : call-lts.After-q3 (claims t) (call-at t) call.Post call-Inv-loop call-μ-loop) → onFrom (indexed (c .before .before .before .before .before .before .before .before .before .before .before .before .before .before .before .before .before .before .before .before .before .before .before .before .before .before .before .before .before .before .before .args .tokens .now) (c .before .before .before .before .before .before .before .before .before .before .before .before .before .before .before .before .before .before .before .before .before .before .before .before .before .before .before .before .before .before .before .args .index .now)) (c .before .before .before .before .before .before .before .before .before .before .before .before .before .before .before .before .before .before .before .before .before .before .before .before .before .before .before .before .before .before .before .args .levels) (c .before .before .before .before .before .before .before .before .before .before .before .before .before .before .before .loop .inv .fuel) (c .before .before .kh2 .given .0 .0) (c .before .before .before .before .before .before .before .before .get .result .p) (c .before .before .before .before .before .before .before .before .get .last .1 .0) (c .before .before .before .before .before .before .before .before .get .last .1 .1 .0) ≡ onFrom (indexed (c .before .before .before .before .before .before .before .before .before .before .before .before .before .before .before .before .before .before .before .before .before .before .before .before .before .before .before .before .before .before .before .args .tokens .now) (c .before .before .before .before .before .before .before .before .before .before .before .before .before .before .before .before .before .before .before .before .before .before .before .before .before .before .before .before .before .before .before .args .index .now)) (c .before .before .before .before .before .before .before .before .before .before .before .before .before .before .before .before .before .before .before .before .before .before .before .before .before .before .before .before .before .before .before .args .levels) (suc (c .before .before .before .before .before .before .before .before .before .before .before .before .before .before .before .loop .inv .fuel)) (c .before .before .before .before .before .before .before .before .before .before .before .before .before .before .before .loop .e) (c .before .before .before .before .before .before .before .before .before .before .before .before .before .before .before .loop .q) (c .before .before .before .before .before .before .before .before .before .before .before .before .before .before .before .loop .errors) (c .before .before .before .before .before .before .before .before .before .before .before .before .before .before .before .loop .nodes)
 again-2 t c =
-    let n = peeked (c .before .before .before .before .before .before .before .before .before .before .before .before .before .before .before .before .before .before .before .before .before .before .before .before .before .before .before .before .before .before .args .tokens .now) (c .before .before .before .before .before .before .before .before .before .before .before .before .before .before .before .loop .q .current) _ (c .before .before .before .before .before .before .before .before .before .before .before .before .before .before .peek .ensures) in
-    let e = call-dot (c .before .before .before .before .before .before .before .before .before .before .before .before .before .before .before .before .before .before .before .before .before .before .before .before .before .before .before .before .before .before .args .tokens .now) (lower (c .before .before .before .before .before .before .before .before .before .before .before .before .before .before .before .before .before .before .before .before .before .before .before .before .before .before .before .before .before .before .args .tokens .now) (c .before .before .before .before .before .before .before .before .before .before .before .before .before .before .before .before .before .before .before .before .before .before .before .before .before .before .before .before .before .before .args .levels)) (c .before .before .before .before .before .before .before .before .before .before .before .before .before .before .before .loop .inv .fuel) (c .before .before .before .before .before .before .before .before .before .before .before .before .before .before .before .loop .e) (c .before .before .before .before .before .before .before .before .before .before .before .before .before .before .before .loop .q) (c .before .before .before .before .before .before .before .before .before .before .before .before .before .before .before .loop .errors) (c .before .before .before .before .before .before .before .before .before .before .before .before .before .before .before .loop .nodes) _ _ n (c .before .before .before .before .before .before .before .before .before .before .before .before .if2 .taken) in
-    rw (e, ← c .before .before .before .before .before .before .before .before .before .at-token2 .ensures, ← c .before .before .before .before .before .before .before .before .get .ensures (lower (c .before .before .before .before .before .before .before .before .before .before .before .before .before .before .before .before .before .before .before .before .before .before .before .before .before .before .before .before .before .before .args .tokens .now) (c .before .before .before .before .before .before .before .before .before .before .before .before .before .before .before .before .before .before .before .before .before .before .before .before .before .before .before .before .before .before .args .levels))) (rw (c .before .before .kh2 .given .1))
+    let n = peeked (indexed (c .before .before .before .before .before .before .before .before .before .before .before .before .before .before .before .before .before .before .before .before .before .before .before .before .before .before .before .before .before .before .before .args .tokens .now) (c .before .before .before .before .before .before .before .before .before .before .before .before .before .before .before .before .before .before .before .before .before .before .before .before .before .before .before .before .before .before .before .args .index .now)) (c .before .before .before .before .before .before .before .before .before .before .before .before .before .before .before .loop .q .current) _ (c .before .before .before .before .before .before .before .before .before .before .before .before .before .before .peek .ensures) in
+    let e = call-dot (indexed (c .before .before .before .before .before .before .before .before .before .before .before .before .before .before .before .before .before .before .before .before .before .before .before .before .before .before .before .before .before .before .before .args .tokens .now) (c .before .before .before .before .before .before .before .before .before .before .before .before .before .before .before .before .before .before .before .before .before .before .before .before .before .before .before .before .before .before .before .args .index .now)) (lower (indexed (c .before .before .before .before .before .before .before .before .before .before .before .before .before .before .before .before .before .before .before .before .before .before .before .before .before .before .before .before .before .before .before .args .tokens .now) (c .before .before .before .before .before .before .before .before .before .before .before .before .before .before .before .before .before .before .before .before .before .before .before .before .before .before .before .before .before .before .before .args .index .now)) (c .before .before .before .before .before .before .before .before .before .before .before .before .before .before .before .before .before .before .before .before .before .before .before .before .before .before .before .before .before .before .before .args .levels)) (c .before .before .before .before .before .before .before .before .before .before .before .before .before .before .before .loop .inv .fuel) (c .before .before .before .before .before .before .before .before .before .before .before .before .before .before .before .loop .e) (c .before .before .before .before .before .before .before .before .before .before .before .before .before .before .before .loop .q) (c .before .before .before .before .before .before .before .before .before .before .before .before .before .before .before .loop .errors) (c .before .before .before .before .before .before .before .before .before .before .before .before .before .before .before .loop .nodes) _ _ n (c .before .before .before .before .before .before .before .before .before .before .before .before .if2 .taken) in
+    rw (e, ← c .before .before .before .before .before .before .before .before .before .at-token2 .ensures, ← c .before .before .before .before .before .before .before .before .get .ensures (lower (indexed (c .before .before .before .before .before .before .before .before .before .before .before .before .before .before .before .before .before .before .before .before .before .before .before .before .before .before .before .before .before .before .before .args .tokens .now) (c .before .before .before .before .before .before .before .before .before .before .before .before .before .before .before .before .before .before .before .before .before .before .before .before .before .before .before .before .before .before .before .args .index .now)) (c .before .before .before .before .before .before .before .before .before .before .before .before .before .before .before .before .before .before .before .before .before .before .before .before .before .before .before .before .before .before .before .args .levels))) (rw (c .before .before .kh2 .given .1))
 
-turn-3 : (t : ℕ) (c : call-lts.After-q4 (claims t) (call-at t) call.Post call-Inv-loop call-μ-loop) → (c .before .before .before .before .before .before .before .before .before .before .before .before .before .before .before .before .loop .q .current < c .before .before .before .before .before .before .before .before .access .result .p .current) × (c .before .before .before .before .before .before .before .before .before .before .before .before .before .before .before .before .loop .q .current < count (c .before .before .before .before .before .before .before .before .before .before .before .before .before .before .before .before .before .before .before .before .before .before .before .before .before .before .before .before .before .before .before .args .tokens .now))
+turn-3 : (t : ℕ) (c : call-lts.After-q4 (claims t) (call-at t) call.Post call-Inv-loop call-μ-loop) → (c .before .before .before .before .before .before .before .before .before .before .before .before .before .before .before .before .loop .q .current < c .before .before .before .before .before .before .before .before .access .result .p .current) × (c .before .before .before .before .before .before .before .before .before .before .before .before .before .before .before .before .loop .q .current < count (c .before .before .before .before .before .before .before .before .before .before .before .before .before .before .before .before .before .before .before .before .before .before .before .before .before .before .before .before .before .before .before .before .args .tokens .now))
 turn-3 t c =
-    let n = peeked (c .before .before .before .before .before .before .before .before .before .before .before .before .before .before .before .before .before .before .before .before .before .before .before .before .before .before .before .before .before .before .before .args .tokens .now) (c .before .before .before .before .before .before .before .before .before .before .before .before .before .before .before .before .loop .q .current) _ (c .before .before .before .before .before .before .before .before .before .before .before .before .before .before .before .peek .ensures) in
+    let n = peeked (indexed (c .before .before .before .before .before .before .before .before .before .before .before .before .before .before .before .before .before .before .before .before .before .before .before .before .before .before .before .before .before .before .before .before .args .tokens .now) (c .before .before .before .before .before .before .before .before .before .before .before .before .before .before .before .before .before .before .before .before .before .before .before .before .before .before .before .before .before .before .before .before .args .index .now)) (c .before .before .before .before .before .before .before .before .before .before .before .before .before .before .before .before .loop .q .current) _ (c .before .before .before .before .before .before .before .before .before .before .before .before .before .before .before .peek .ensures) in
     let g = next-past _ _ _ _ _ n (c .before .before .before .before .before .before .before .before .before .before .before .before .if3 .taken) refl refl in
     let a = ap (λ (x : State). x .current) (c .before .before .before .before .before .before .before .before .before .at-token3 .ensures) in
-    let b = not-back (c .before .before .before .before .before .before .before .before .before .before .before .before .before .before .before .before .before .before .before .before .before .before .before .before .before .before .before .before .before .before .before .args .tokens .now) (c .before .before .before .before .before .before .before .before .before .before .before .before .before .before .before .before .before .before .before .before .before .before .before .before .before .before .before .before .before .before .before .args .levels) (access (c .before .before .before .before .before .before .before .before .before .before .before .before .before .before .before .before .before .before .before .before .before .before .before .before .before .before .before .before .before .before .before .args .tokens .now) (c .before .before .before .before .before .before .before .before .before .before .before .before .before .before .before .before .loop .e) (c .before .before .before .before .before .before .before .before .before .before .before .before .before .before .before .peek .result .past)) _ _ _ _ _ _ _ (c .before .before .before .before .before .before .before .before .access .ensures) in
+    let b = not-back (indexed (c .before .before .before .before .before .before .before .before .before .before .before .before .before .before .before .before .before .before .before .before .before .before .before .before .before .before .before .before .before .before .before .before .args .tokens .now) (c .before .before .before .before .before .before .before .before .before .before .before .before .before .before .before .before .before .before .before .before .before .before .before .before .before .before .before .before .before .before .before .before .args .index .now)) (c .before .before .before .before .before .before .before .before .before .before .before .before .before .before .before .before .before .before .before .before .before .before .before .before .before .before .before .before .before .before .before .before .args .levels) (access (indexed (c .before .before .before .before .before .before .before .before .before .before .before .before .before .before .before .before .before .before .before .before .before .before .before .before .before .before .before .before .before .before .before .before .args .tokens .now) (c .before .before .before .before .before .before .before .before .before .before .before .before .before .before .before .before .before .before .before .before .before .before .before .before .before .before .before .before .before .before .before .before .args .index .now)) (c .before .before .before .before .before .before .before .before .before .before .before .before .before .before .before .before .loop .e) (c .before .before .before .before .before .before .before .before .before .before .before .before .before .before .before .peek .result .past)) _ _ _ _ _ _ _ (c .before .before .before .before .before .before .before .before .access .ensures) in
     (omega arith, g .1)
 
-again-3 : (t : ℕ) (c : call-lts.After-q4 (claims t) (call-at t) call.Post call-Inv-loop call-μ-loop) → onFrom (c .before .before .before .before .before .before .before .before .before .before .before .before .before .before .before .before .before .before .before .before .before .before .before .before .before .before .before .before .before .before .before .args .tokens .now) (c .before .before .before .before .before .before .before .before .before .before .before .before .before .before .before .before .before .before .before .before .before .before .before .before .before .before .before .before .before .before .before .args .levels) (c .before .before .before .before .before .before .before .before .before .before .before .before .before .before .before .before .loop .inv .fuel) (c .before .before .kh3 .given .0 .0) (c .before .before .before .before .before .before .before .before .access .result .p) (c .before .before .before .before .before .before .before .before .access .last .1 .0) (c .before .before .before .before .before .before .before .before .access .last .1 .1 .0) ≡ onFrom (c .before .before .before .before .before .before .before .before .before .before .before .before .before .before .before .before .before .before .before .before .before .before .before .before .before .before .before .before .before .before .before .args .tokens .now) (c .before .before .before .before .before .before .before .before .before .before .before .before .before .before .before .before .before .before .before .before .before .before .before .before .before .before .before .before .before .before .before .args .levels) (suc (c .before .before .before .before .before .before .before .before .before .before .before .before .before .before .before .before .loop .inv .fuel)) (c .before .before .before .before .before .before .before .before .before .before .before .before .before .before .before .before .loop .e) (c .before .before .before .before .before .before .before .before .before .before .before .before .before .before .before .before .loop .q) (c .before .before .before .before .before .before .before .before .before .before .before .before .before .before .before .before .loop .errors) (c .before .before .before .before .before .before .before .before .before .before .before .before .before .before .before .before .loop .nodes)
+again-3 : (t : ℕ) (c : call-lts.After-q4 (claims t) (call-at t) call.Post call-Inv-loop call-μ-loop) → onFrom (indexed (c .before .before .before .before .before .before .before .before .before .before .before .before .before .before .before .before .before .before .before .before .before .before .before .before .before .before .before .before .before .before .before .before .args .tokens .now) (c .before .before .before .before .before .before .before .before .before .before .before .before .before .before .before .before .before .before .before .before .before .before .before .before .before .before .before .before .before .before .before .before .args .index .now)) (c .before .before .before .before .before .before .before .before .before .before .before .before .before .before .before .before .before .before .before .before .before .before .before .before .before .before .before .before .before .before .before .before .args .levels) (c .before .before .before .before .before .before .before .before .before .before .before .before .before .before .before .before .loop .inv .fuel) (c .before .before .kh3 .given .0 .0) (c .before .before .before .before .before .before .before .before .access .result .p) (c .before .before .before .before .before .before .before .before .access .last .1 .0) (c .before .before .before .before .before .before .before .before .access .last .1 .1 .0) ≡ onFrom (indexed (c .before .before .before .before .before .before .before .before .before .before .before .before .before .before .before .before .before .before .before .before .before .before .before .before .before .before .before .before .before .before .before .before .args .tokens .now) (c .before .before .before .before .before .before .before .before .before .before .before .before .before .before .before .before .before .before .before .before .before .before .before .before .before .before .before .before .before .before .before .before .args .index .now)) (c .before .before .before .before .before .before .before .before .before .before .before .before .before .before .before .before .before .before .before .before .before .before .before .before .before .before .before .before .before .before .before .before .args .levels) (suc (c .before .before .before .before .before .before .before .before .before .before .before .before .before .before .before .before .loop .inv .fuel)) (c .before .before .before .before .before .before .before .before .before .before .before .before .before .before .before .before .loop .e) (c .before .before .before .before .before .before .before .before .before .before .before .before .before .before .before .before .loop .q) (c .before .before .before .before .before .before .before .before .before .before .before .before .before .before .before .before .loop .errors) (c .before .before .before .before .before .before .before .before .before .before .before .before .before .before .before .before .loop .nodes)
 again-3 t c =
-    let n = peeked (c .before .before .before .before .before .before .before .before .before .before .before .before .before .before .before .before .before .before .before .before .before .before .before .before .before .before .before .before .before .before .before .args .tokens .now) (c .before .before .before .before .before .before .before .before .before .before .before .before .before .before .before .before .loop .q .current) _ (c .before .before .before .before .before .before .before .before .before .before .before .before .before .before .before .peek .ensures) in
-    let e = call-brace (c .before .before .before .before .before .before .before .before .before .before .before .before .before .before .before .before .before .before .before .before .before .before .before .before .before .before .before .before .before .before .before .args .tokens .now) (lower (c .before .before .before .before .before .before .before .before .before .before .before .before .before .before .before .before .before .before .before .before .before .before .before .before .before .before .before .before .before .before .before .args .tokens .now) (c .before .before .before .before .before .before .before .before .before .before .before .before .before .before .before .before .before .before .before .before .before .before .before .before .before .before .before .before .before .before .before .args .levels)) (c .before .before .before .before .before .before .before .before .before .before .before .before .before .before .before .before .loop .inv .fuel) (c .before .before .before .before .before .before .before .before .before .before .before .before .before .before .before .before .loop .e) (c .before .before .before .before .before .before .before .before .before .before .before .before .before .before .before .before .loop .q) (c .before .before .before .before .before .before .before .before .before .before .before .before .before .before .before .before .loop .errors) (c .before .before .before .before .before .before .before .before .before .before .before .before .before .before .before .before .loop .nodes) _ _ n (c .before .before .before .before .before .before .before .before .before .before .before .before .if3 .taken) in
+    let n = peeked (indexed (c .before .before .before .before .before .before .before .before .before .before .before .before .before .before .before .before .before .before .before .before .before .before .before .before .before .before .before .before .before .before .before .before .args .tokens .now) (c .before .before .before .before .before .before .before .before .before .before .before .before .before .before .before .before .before .before .before .before .before .before .before .before .before .before .before .before .before .before .before .before .args .index .now)) (c .before .before .before .before .before .before .before .before .before .before .before .before .before .before .before .before .loop .q .current) _ (c .before .before .before .before .before .before .before .before .before .before .before .before .before .before .before .peek .ensures) in
+    let e = call-brace (indexed (c .before .before .before .before .before .before .before .before .before .before .before .before .before .before .before .before .before .before .before .before .before .before .before .before .before .before .before .before .before .before .before .before .args .tokens .now) (c .before .before .before .before .before .before .before .before .before .before .before .before .before .before .before .before .before .before .before .before .before .before .before .before .before .before .before .before .before .before .before .before .args .index .now)) (lower (indexed (c .before .before .before .before .before .before .before .before .before .before .before .before .before .before .before .before .before .before .before .before .before .before .before .before .before .before .before .before .before .before .before .before .args .tokens .now) (c .before .before .before .before .before .before .before .before .before .before .before .before .before .before .before .before .before .before .before .before .before .before .before .before .before .before .before .before .before .before .before .before .args .index .now)) (c .before .before .before .before .before .before .before .before .before .before .before .before .before .before .before .before .before .before .before .before .before .before .before .before .before .before .before .before .before .before .before .before .args .levels)) (c .before .before .before .before .before .before .before .before .before .before .before .before .before .before .before .before .loop .inv .fuel) (c .before .before .before .before .before .before .before .before .before .before .before .before .before .before .before .before .loop .e) (c .before .before .before .before .before .before .before .before .before .before .before .before .before .before .before .before .loop .q) (c .before .before .before .before .before .before .before .before .before .before .before .before .before .before .before .before .loop .errors) (c .before .before .before .before .before .before .before .before .before .before .before .before .before .before .before .before .loop .nodes) _ _ n (c .before .before .before .before .before .before .before .before .before .before .before .before .if3 .taken) in
     rw (e, ← c .before .before .before .before .before .before .before .before .before .at-token3 .ensures, ← c .before .before .before .before .before .before .before .before .access .ensures) (rw (c .before .before .kh3 .given .1))
 
 primary-requires : (t : ℕ) → call-lts.Need-primary-requires (claims t) (call-at t) call.Post call-Inv-loop call-μ-loop
-primary-requires t c κs = omega (arith, c .before .before .before .before .before .pre)
+primary-requires t c κs = omega (arith, c .before .before .before .before .before .before .pre)
 
 enum-known-k : (t : ℕ) → call-lts.Need-enum-known-k (claims t) (call-at t) call.Post call-Inv-loop call-μ-loop
 enum-known-k t c = search needs
@@ -120,7 +122,7 @@ unfolding run call
 returns t c = rw (← c .before .before .before .before .before .before .primary .ensures, c .enum-told .given .1)
 
 loop-holds : (t : ℕ) → call-lts.Need-loop-holds (claims t) (call-at t) call.Post call-Inv-loop call-μ-loop
-loop-holds t c = record { fuel = count (c .before .before .before .before .before .before .before .before .before .before .before .before .before .before .args .tokens .now); enough = omega arith; same = refl; errors = refl; nodes = refl }
+loop-holds t c = record { fuel = count (c .before .before .before .before .before .before .before .before .before .before .before .before .before .before .before .args .tokens .now); enough = omega arith; same = refl; errors = refl; nodes = refl }
 
 peek-requires : (t : ℕ) → call-lts.Need-peek-requires (claims t) (call-at t) call.Post call-Inv-loop call-μ-loop
 peek-requires t c κs = search needs
@@ -129,7 +131,7 @@ at-token-requires : (t : ℕ) → call-lts.Need-at-token-requires (claims t) (ca
 at-token-requires t c κs = search needs
 
 arguments-requires : (t : ℕ) → call-lts.Need-arguments-requires (claims t) (call-at t) call.Post call-Inv-loop call-μ-loop
-arguments-requires t c κs = omega (arith, c .before .before .before .before .before .before .before .before .before .before .before .before .before .before .before .before .before .before .before .before .pre)
+arguments-requires t c κs = omega (arith, c .before .before .before .before .before .before .before .before .before .before .before .before .before .before .before .before .before .before .before .before .before .pre)
 
 finish-call-requires : (t : ℕ) → call-lts.Need-finish-call-requires (claims t) (call-at t) call.Post call-Inv-loop call-μ-loop
 finish-call-requires t c κs = search needs
@@ -149,9 +151,9 @@ same-length-4 t c = c .before .before .before .before .before .before .finish-ca
 returns-2 : (t : ℕ) → call-lts.Need-returns-2 (claims t) (call-at t) call.Post call-Inv-loop call-μ-loop
 unfolding run finishCall
 returns-2 t c =
-    let n = peeked (c .before .before .before .before .before .before .before .before .before .before .before .before .before .before .before .before .before .before .before .before .before .before .before .before .before .before .before .before .before .before .before .before .before .before .args .tokens .now) (c .before .before .before .before .before .before .before .before .before .before .before .before .before .before .before .before .before .before .before .loop .q .current) _ (c .before .before .before .before .before .before .before .before .before .before .before .before .before .before .before .before .before .before .peek .ensures) in
-    let e = call-paren (c .before .before .before .before .before .before .before .before .before .before .before .before .before .before .before .before .before .before .before .before .before .before .before .before .before .before .before .before .before .before .before .before .before .before .args .tokens .now) (lower (c .before .before .before .before .before .before .before .before .before .before .before .before .before .before .before .before .before .before .before .before .before .before .before .before .before .before .before .before .before .before .before .before .before .before .args .tokens .now) (c .before .before .before .before .before .before .before .before .before .before .before .before .before .before .before .before .before .before .before .before .before .before .before .before .before .before .before .before .before .before .before .before .before .before .args .levels)) (c .before .before .before .before .before .before .before .before .before .before .before .before .before .before .before .before .before .before .before .loop .inv .fuel) (c .before .before .before .before .before .before .before .before .before .before .before .before .before .before .before .before .before .before .before .loop .e) (c .before .before .before .before .before .before .before .before .before .before .before .before .before .before .before .before .before .before .before .loop .q) (c .before .before .before .before .before .before .before .before .before .before .before .before .before .before .before .before .before .before .before .loop .errors) (c .before .before .before .before .before .before .before .before .before .before .before .before .before .before .before .before .before .before .before .loop .nodes) _ _ n (c .before .before .before .before .before .before .before .before .before .before .before .before .before .before .before .before .before .if1 .taken) in
-    rw (head t (c .before .before .before .before .before .before .before .before .before .before .before .before .before .before .before .before .before .before .before), e, ← c .before .before .before .before .before .before .before .before .before .before .before .before .before .before .at-token .ensures) (rw (← c .before .before .before .before .before .before .before .before .before .before .before .before .before .arguments .ensures, ← c .before .before .before .before .before .before .finish-call .ensures (lower (c .before .before .before .before .before .before .before .before .before .before .before .before .before .before .before .before .before .before .before .before .before .before .before .before .before .before .before .before .before .before .before .before .before .before .args .tokens .now) (c .before .before .before .before .before .before .before .before .before .before .before .before .before .before .before .before .before .before .before .before .before .before .before .before .before .before .before .before .before .before .before .before .before .before .args .levels)), c .enum-told2 .given .1))
+    let n = peeked (indexed (c .before .before .before .before .before .before .before .before .before .before .before .before .before .before .before .before .before .before .before .before .before .before .before .before .before .before .before .before .before .before .before .before .before .before .before .args .tokens .now) (c .before .before .before .before .before .before .before .before .before .before .before .before .before .before .before .before .before .before .before .before .before .before .before .before .before .before .before .before .before .before .before .before .before .before .before .args .index .now)) (c .before .before .before .before .before .before .before .before .before .before .before .before .before .before .before .before .before .before .before .loop .q .current) _ (c .before .before .before .before .before .before .before .before .before .before .before .before .before .before .before .before .before .before .peek .ensures) in
+    let e = call-paren (indexed (c .before .before .before .before .before .before .before .before .before .before .before .before .before .before .before .before .before .before .before .before .before .before .before .before .before .before .before .before .before .before .before .before .before .before .before .args .tokens .now) (c .before .before .before .before .before .before .before .before .before .before .before .before .before .before .before .before .before .before .before .before .before .before .before .before .before .before .before .before .before .before .before .before .before .before .before .args .index .now)) (lower (indexed (c .before .before .before .before .before .before .before .before .before .before .before .before .before .before .before .before .before .before .before .before .before .before .before .before .before .before .before .before .before .before .before .before .before .before .before .args .tokens .now) (c .before .before .before .before .before .before .before .before .before .before .before .before .before .before .before .before .before .before .before .before .before .before .before .before .before .before .before .before .before .before .before .before .before .before .before .args .index .now)) (c .before .before .before .before .before .before .before .before .before .before .before .before .before .before .before .before .before .before .before .before .before .before .before .before .before .before .before .before .before .before .before .before .before .before .before .args .levels)) (c .before .before .before .before .before .before .before .before .before .before .before .before .before .before .before .before .before .before .before .loop .inv .fuel) (c .before .before .before .before .before .before .before .before .before .before .before .before .before .before .before .before .before .before .before .loop .e) (c .before .before .before .before .before .before .before .before .before .before .before .before .before .before .before .before .before .before .before .loop .q) (c .before .before .before .before .before .before .before .before .before .before .before .before .before .before .before .before .before .before .before .loop .errors) (c .before .before .before .before .before .before .before .before .before .before .before .before .before .before .before .before .before .before .before .loop .nodes) _ _ n (c .before .before .before .before .before .before .before .before .before .before .before .before .before .before .before .before .before .if1 .taken) in
+    rw (head t (c .before .before .before .before .before .before .before .before .before .before .before .before .before .before .before .before .before .before .before), e, ← c .before .before .before .before .before .before .before .before .before .before .before .before .before .before .at-token .ensures) (rw (← c .before .before .before .before .before .before .before .before .before .before .before .before .before .arguments .ensures, ← c .before .before .before .before .before .before .finish-call .ensures (lower (indexed (c .before .before .before .before .before .before .before .before .before .before .before .before .before .before .before .before .before .before .before .before .before .before .before .before .before .before .before .before .before .before .before .before .before .before .before .args .tokens .now) (c .before .before .before .before .before .before .before .before .before .before .before .before .before .before .before .before .before .before .before .before .before .before .before .before .before .before .before .before .before .before .before .before .before .before .before .args .index .now)) (c .before .before .before .before .before .before .before .before .before .before .before .before .before .before .before .before .before .before .before .before .before .before .before .before .before .before .before .before .before .before .before .before .before .before .before .args .levels)), c .enum-told2 .given .1))
 
 loop-less : (t : ℕ) → call-lts.Need-loop-less (claims t) (call-at t) call.Post call-Inv-loop call-μ-loop
 loop-less t c = let g = turn t c in omega arith
@@ -182,9 +184,9 @@ same-length-6 t c = c .before .before .before .before .before .before .get .kept
 
 returns-3 : (t : ℕ) → call-lts.Need-returns-3 (claims t) (call-at t) call.Post call-Inv-loop call-μ-loop
 returns-3 t c =
-    let n = peeked (c .before .before .before .before .before .before .before .before .before .before .before .before .before .before .before .before .before .before .before .before .before .before .before .before .before .before .before .before .args .tokens .now) (c .before .before .before .before .before .before .before .before .before .before .before .before .before .loop .q .current) _ (c .before .before .before .before .before .before .before .before .before .before .before .before .peek .ensures) in
-    let e = call-dot (c .before .before .before .before .before .before .before .before .before .before .before .before .before .before .before .before .before .before .before .before .before .before .before .before .before .before .before .before .args .tokens .now) (lower (c .before .before .before .before .before .before .before .before .before .before .before .before .before .before .before .before .before .before .before .before .before .before .before .before .before .before .before .before .args .tokens .now) (c .before .before .before .before .before .before .before .before .before .before .before .before .before .before .before .before .before .before .before .before .before .before .before .before .before .before .before .before .args .levels)) (c .before .before .before .before .before .before .before .before .before .before .before .before .before .loop .inv .fuel) (c .before .before .before .before .before .before .before .before .before .before .before .before .before .loop .e) (c .before .before .before .before .before .before .before .before .before .before .before .before .before .loop .q) (c .before .before .before .before .before .before .before .before .before .before .before .before .before .loop .errors) (c .before .before .before .before .before .before .before .before .before .before .before .before .before .loop .nodes) _ _ n (c .before .before .before .before .before .before .before .before .before .before .if2 .taken) in
-    rw (head t (c .before .before .before .before .before .before .before .before .before .before .before .before .before), e, ← c .before .before .before .before .before .before .before .at-token2 .ensures) (rw (← c .before .before .before .before .before .before .get .ensures (lower (c .before .before .before .before .before .before .before .before .before .before .before .before .before .before .before .before .before .before .before .before .before .before .before .before .before .before .before .before .args .tokens .now) (c .before .before .before .before .before .before .before .before .before .before .before .before .before .before .before .before .before .before .before .before .before .before .before .before .before .before .before .before .args .levels)), c .enum-told3 .given .1))
+    let n = peeked (indexed (c .before .before .before .before .before .before .before .before .before .before .before .before .before .before .before .before .before .before .before .before .before .before .before .before .before .before .before .before .before .args .tokens .now) (c .before .before .before .before .before .before .before .before .before .before .before .before .before .before .before .before .before .before .before .before .before .before .before .before .before .before .before .before .before .args .index .now)) (c .before .before .before .before .before .before .before .before .before .before .before .before .before .loop .q .current) _ (c .before .before .before .before .before .before .before .before .before .before .before .before .peek .ensures) in
+    let e = call-dot (indexed (c .before .before .before .before .before .before .before .before .before .before .before .before .before .before .before .before .before .before .before .before .before .before .before .before .before .before .before .before .before .args .tokens .now) (c .before .before .before .before .before .before .before .before .before .before .before .before .before .before .before .before .before .before .before .before .before .before .before .before .before .before .before .before .before .args .index .now)) (lower (indexed (c .before .before .before .before .before .before .before .before .before .before .before .before .before .before .before .before .before .before .before .before .before .before .before .before .before .before .before .before .before .args .tokens .now) (c .before .before .before .before .before .before .before .before .before .before .before .before .before .before .before .before .before .before .before .before .before .before .before .before .before .before .before .before .before .args .index .now)) (c .before .before .before .before .before .before .before .before .before .before .before .before .before .before .before .before .before .before .before .before .before .before .before .before .before .before .before .before .before .args .levels)) (c .before .before .before .before .before .before .before .before .before .before .before .before .before .loop .inv .fuel) (c .before .before .before .before .before .before .before .before .before .before .before .before .before .loop .e) (c .before .before .before .before .before .before .before .before .before .before .before .before .before .loop .q) (c .before .before .before .before .before .before .before .before .before .before .before .before .before .loop .errors) (c .before .before .before .before .before .before .before .before .before .before .before .before .before .loop .nodes) _ _ n (c .before .before .before .before .before .before .before .before .before .before .if2 .taken) in
+    rw (head t (c .before .before .before .before .before .before .before .before .before .before .before .before .before), e, ← c .before .before .before .before .before .before .before .at-token2 .ensures) (rw (← c .before .before .before .before .before .before .get .ensures (lower (indexed (c .before .before .before .before .before .before .before .before .before .before .before .before .before .before .before .before .before .before .before .before .before .before .before .before .before .before .before .before .before .args .tokens .now) (c .before .before .before .before .before .before .before .before .before .before .before .before .before .before .before .before .before .before .before .before .before .before .before .before .before .before .before .before .before .args .index .now)) (c .before .before .before .before .before .before .before .before .before .before .before .before .before .before .before .before .before .before .before .before .before .before .before .before .before .before .before .before .before .args .levels)), c .enum-told3 .given .1))
 
 loop-less-2 : (t : ℕ) → call-lts.Need-loop-less-2 (claims t) (call-at t) call.Post call-Inv-loop call-μ-loop
 loop-less-2 t c = let g = turn-2 t c in omega arith
@@ -199,7 +201,7 @@ at-token-requires-3 : (t : ℕ) → call-lts.Need-at-token-requires-3 (claims t)
 at-token-requires-3 t c κs = search needs
 
 access-requires : (t : ℕ) → call-lts.Need-access-requires (claims t) (call-at t) call.Post call-Inv-loop call-μ-loop
-access-requires t c κs = omega (arith, c .before .before .before .before .before .before .before .before .before .before .before .before .before .before .before .before .before .before .before .before .before .before .pre)
+access-requires t c κs = omega (arith, c .before .before .before .before .before .before .before .before .before .before .before .before .before .before .before .before .before .before .before .before .before .before .before .pre)
 
 enum-known-kh-3 : (t : ℕ) → call-lts.Need-enum-known-kh-3 (claims t) (call-at t) call.Post call-Inv-loop call-μ-loop
 enum-known-kh-3 t c = search needs
@@ -215,8 +217,8 @@ same-length-8 t c = c .before .before .before .before .before .before .access .k
 
 returns-4 : (t : ℕ) → call-lts.Need-returns-4 (claims t) (call-at t) call.Post call-Inv-loop call-μ-loop
 returns-4 t c =
-    let n = peeked (c .before .before .before .before .before .before .before .before .before .before .before .before .before .before .before .before .before .before .before .before .before .before .before .before .before .before .before .before .before .args .tokens .now) (c .before .before .before .before .before .before .before .before .before .before .before .before .before .before .loop .q .current) _ (c .before .before .before .before .before .before .before .before .before .before .before .before .before .peek .ensures) in
-    let e = call-brace (c .before .before .before .before .before .before .before .before .before .before .before .before .before .before .before .before .before .before .before .before .before .before .before .before .before .before .before .before .before .args .tokens .now) (lower (c .before .before .before .before .before .before .before .before .before .before .before .before .before .before .before .before .before .before .before .before .before .before .before .before .before .before .before .before .before .args .tokens .now) (c .before .before .before .before .before .before .before .before .before .before .before .before .before .before .before .before .before .before .before .before .before .before .before .before .before .before .before .before .before .args .levels)) (c .before .before .before .before .before .before .before .before .before .before .before .before .before .before .loop .inv .fuel) (c .before .before .before .before .before .before .before .before .before .before .before .before .before .before .loop .e) (c .before .before .before .before .before .before .before .before .before .before .before .before .before .before .loop .q) (c .before .before .before .before .before .before .before .before .before .before .before .before .before .before .loop .errors) (c .before .before .before .before .before .before .before .before .before .before .before .before .before .before .loop .nodes) _ _ n (c .before .before .before .before .before .before .before .before .before .before .if3 .taken) in
+    let n = peeked (indexed (c .before .before .before .before .before .before .before .before .before .before .before .before .before .before .before .before .before .before .before .before .before .before .before .before .before .before .before .before .before .before .args .tokens .now) (c .before .before .before .before .before .before .before .before .before .before .before .before .before .before .before .before .before .before .before .before .before .before .before .before .before .before .before .before .before .before .args .index .now)) (c .before .before .before .before .before .before .before .before .before .before .before .before .before .before .loop .q .current) _ (c .before .before .before .before .before .before .before .before .before .before .before .before .before .peek .ensures) in
+    let e = call-brace (indexed (c .before .before .before .before .before .before .before .before .before .before .before .before .before .before .before .before .before .before .before .before .before .before .before .before .before .before .before .before .before .before .args .tokens .now) (c .before .before .before .before .before .before .before .before .before .before .before .before .before .before .before .before .before .before .before .before .before .before .before .before .before .before .before .before .before .before .args .index .now)) (lower (indexed (c .before .before .before .before .before .before .before .before .before .before .before .before .before .before .before .before .before .before .before .before .before .before .before .before .before .before .before .before .before .before .args .tokens .now) (c .before .before .before .before .before .before .before .before .before .before .before .before .before .before .before .before .before .before .before .before .before .before .before .before .before .before .before .before .before .before .args .index .now)) (c .before .before .before .before .before .before .before .before .before .before .before .before .before .before .before .before .before .before .before .before .before .before .before .before .before .before .before .before .before .before .args .levels)) (c .before .before .before .before .before .before .before .before .before .before .before .before .before .before .loop .inv .fuel) (c .before .before .before .before .before .before .before .before .before .before .before .before .before .before .loop .e) (c .before .before .before .before .before .before .before .before .before .before .before .before .before .before .loop .q) (c .before .before .before .before .before .before .before .before .before .before .before .before .before .before .loop .errors) (c .before .before .before .before .before .before .before .before .before .before .before .before .before .before .loop .nodes) _ _ n (c .before .before .before .before .before .before .before .before .before .before .if3 .taken) in
     rw (head t (c .before .before .before .before .before .before .before .before .before .before .before .before .before .before), e, ← c .before .before .before .before .before .before .before .at-token3 .ensures) (rw (← c .before .before .before .before .before .before .access .ensures, c .enum-told4 .given .1))
 
 loop-less-3 : (t : ℕ) → call-lts.Need-loop-less-3 (claims t) (call-at t) call.Post call-Inv-loop call-μ-loop
@@ -228,20 +230,23 @@ loop-again-3 t c =
     let f : suc (c .before .before .before .before .before .before .before .before .before .before .before .before .before .before .before .before .loop .inv .fuel - 1) ≡ c .before .before .before .before .before .before .before .before .before .before .before .before .before .before .before .before .loop .inv .fuel = omega (arith, c .before .before .before .before .before .before .before .before .before .before .before .before .before .before .before .before .loop .inv .enough) in
     record { fuel = c .before .before .before .before .before .before .before .before .before .before .before .before .before .before .before .before .loop .inv .fuel - 1; enough = omega (arith, c .before .before .before .before .before .before .before .before .before .before .before .before .before .before .before .before .loop .inv .enough); same = rw f (again-3 t c ∙ c .before .before .before .before .before .before .before .before .before .before .before .before .before .before .before .before .loop .inv .same); errors = c .before .before .before .before .before .before .before .before .access .kept .1 .0 ∙ c .before .before .before .before .before .before .before .before .before .before .before .before .before .before .before .before .loop .inv .errors; nodes = c .before .before .before .before .before .before .before .before .access .kept .1 .1 .0 ∙ c .before .before .before .before .before .before .before .before .before .before .before .before .before .before .before .before .loop .inv .nodes }
 
+looked-requires : (t : ℕ) → call-lts.Need-looked-requires (claims t) (call-at t) call.Post call-Inv-loop call-μ-loop
+looked-requires t c κs = search needs
+
 found-requires : (t : ℕ) → call-lts.Need-found-requires (claims t) (call-at t) call.Post call-Inv-loop call-μ-loop
 found-requires t c κs = search needs
 
 same-length-9 : (t : ℕ) → call-lts.Need-same-length-9 (claims t) (call-at t) call.Post call-Inv-loop call-μ-loop
-same-length-9 t c = c .before .before .before .before .before .loop .inv .errors ∙ c .before .before .before .before .before .before .before .before .before .before .before .before .before .before .primary .kept .1 .0
+same-length-9 t c = c .before .before .before .before .before .before .loop .inv .errors ∙ c .before .before .before .before .before .before .before .before .before .before .before .before .before .before .before .primary .kept .1 .0
 
 same-length-10 : (t : ℕ) → call-lts.Need-same-length-10 (claims t) (call-at t) call.Post call-Inv-loop call-μ-loop
-same-length-10 t c = c .before .before .before .before .before .loop .inv .nodes ∙ c .before .before .before .before .before .before .before .before .before .before .before .before .before .before .primary .kept .1 .1 .0
+same-length-10 t c = c .before .before .before .before .before .before .loop .inv .nodes ∙ c .before .before .before .before .before .before .before .before .before .before .before .before .before .before .before .primary .kept .1 .1 .0
 
 returns-5 : (t : ℕ) → call-lts.Need-returns-5 (claims t) (call-at t) call.Post call-Inv-loop call-μ-loop
 returns-5 t c =
-    let n = peeked (c .before .before .before .before .before .before .before .before .before .before .before .before .before .before .before .before .before .before .before .before .args .tokens .now) (c .before .before .before .before .before .loop .q .current) _ (c .before .before .before .before .peek .ensures) in
-    let e = call-end (c .before .before .before .before .before .before .before .before .before .before .before .before .before .before .before .before .before .before .before .before .args .tokens .now) (lower (c .before .before .before .before .before .before .before .before .before .before .before .before .before .before .before .before .before .before .before .before .args .tokens .now) (c .before .before .before .before .before .before .before .before .before .before .before .before .before .before .before .before .before .before .before .before .args .levels)) (c .before .before .before .before .before .loop .inv .fuel) (c .before .before .before .before .before .loop .e) (c .before .before .before .before .before .loop .q) (c .before .before .before .before .before .loop .errors) (c .before .before .before .before .before .loop .nodes) _ _ n (c .before .before .before .if1 .left) (c .before .before .if2 .left) (c .before .if3 .left) in
-    ap (λ (x : Out). reply (x .p) (x .got) (c .before .before .before .before .before .loop .errors) (c .before .before .before .before .before .loop .nodes)) (c .found .ensures) ∙ sym (head t (c .before .before .before .before .before) ∙ e)
+    let n = peeked (indexed (c .before .before .before .before .before .before .before .before .before .before .before .before .before .before .before .before .before .before .before .before .before .before .args .tokens .now) (c .before .before .before .before .before .before .before .before .before .before .before .before .before .before .before .before .before .before .before .before .before .before .args .index .now)) (c .before .before .before .before .before .before .loop .q .current) _ (c .before .before .before .before .before .peek .ensures) in
+    let e = call-end (indexed (c .before .before .before .before .before .before .before .before .before .before .before .before .before .before .before .before .before .before .before .before .before .before .args .tokens .now) (c .before .before .before .before .before .before .before .before .before .before .before .before .before .before .before .before .before .before .before .before .before .before .args .index .now)) (lower (indexed (c .before .before .before .before .before .before .before .before .before .before .before .before .before .before .before .before .before .before .before .before .before .before .args .tokens .now) (c .before .before .before .before .before .before .before .before .before .before .before .before .before .before .before .before .before .before .before .before .before .before .args .index .now)) (c .before .before .before .before .before .before .before .before .before .before .before .before .before .before .before .before .before .before .before .before .before .before .args .levels)) (c .before .before .before .before .before .before .loop .inv .fuel) (c .before .before .before .before .before .before .loop .e) (c .before .before .before .before .before .before .loop .q) (c .before .before .before .before .before .before .loop .errors) (c .before .before .before .before .before .before .loop .nodes) _ _ n (c .before .before .before .before .if1 .left) (c .before .before .before .if2 .left) (c .before .before .if3 .left) in
+    ap (λ (x : Out). reply (x .p) (x .got) (c .before .before .before .before .before .before .loop .errors) (c .before .before .before .before .before .before .loop .nodes)) (c .found .ensures) ∙ ap (λ (x : State). reply x (Node (c .before .before .before .before .before .before .loop .e)) (c .before .before .before .before .before .before .loop .errors) (c .before .before .before .before .before .before .loop .nodes)) (c .before .looked .ensures) ∙ sym (head t (c .before .before .before .before .before .before) ∙ e)
 
 pub call-ok : {M : Type 1} (t : ℕ) → call-lts.Closed (claims t) (call-at t) call.Post M
 call-ok t = call-lts.spec (claims t) (call-at t) call.Post
@@ -283,6 +288,7 @@ call-ok t = call-lts.spec (claims t) (call-at t) call.Post
     (returns-4 t)
     (loop-less-3 t)
     (loop-again-3 t)
+    (looked-requires t)
     (found-requires t)
     (same-length-9 t)
     (same-length-10 t)

@@ -1,5 +1,6 @@
 -- Made by tools/remake cycle grammar from tools/ans/grammar/class.txt: `class`, of the cycle.
 use Prim.Native.Nat.{ℕ}
+use Rattle.parser.specs.Tokens.{indexed}
 use Rattle.parser.specs.Programs.{run}
 use Rattle.parser.specs.Grammar.{lower, class}
 use Rattle.grammar.proofs.class.Reads as class
@@ -29,7 +30,7 @@ same-length t c = c .before .before .before .before .consume .kept .1 .0
 
 returns : (t : ℕ) → class-lts.Need-returns (claims t) (class-at t) class.Post
 unfolding run class
-returns t c = rw (← c .before .before .before .before .consume .ensures (c .before .before .before .before .before .before .before .before .before .args .nodes .now), c .enum-told .given .1)
+returns t c = rw (← c .before .before .before .before .consume .ensures (c .before .before .before .before .before .before .before .before .before .before .args .nodes .now), c .enum-told .given .1)
 
 superclass-requires : (t : ℕ) → class-lts.Need-superclass-requires (claims t) (class-at t) class.Post
 superclass-requires t c κs = search needs
@@ -48,7 +49,7 @@ same-length-3 t c = c .before .before .before .before .before .before .superclas
 
 returns-2 : (t : ℕ) → class-lts.Need-returns-2 (claims t) (class-at t) class.Post
 unfolding run class
-returns-2 t c = rw (← c .before .before .before .before .before .before .before .before .before .before .before .before .before .before .before .consume .ensures (c .before .before .before .before .before .before .before .before .before .before .before .before .before .before .before .before .before .before .before .before .args .nodes .now), c .before .before .before .before .before .before .before .before .before .before .before .k .given .1, ← c .before .before .before .before .before .before .superclass .ensures (lower (c .before .before .before .before .before .before .before .before .before .before .before .before .before .before .before .before .before .before .before .before .args .tokens .now) (c .before .before .before .before .before .before .before .before .before .before .before .before .before .before .before .before .before .before .before .before .args .levels))) (rw (c .enum-told2 .given .1))
+returns-2 t c = rw (← c .before .before .before .before .before .before .before .before .before .before .before .before .before .before .before .consume .ensures (c .before .before .before .before .before .before .before .before .before .before .before .before .before .before .before .before .before .before .before .before .before .args .nodes .now), c .before .before .before .before .before .before .before .before .before .before .before .k .given .1, ← c .before .before .before .before .before .before .superclass .ensures (lower (indexed (c .before .before .before .before .before .before .before .before .before .before .before .before .before .before .before .before .before .before .before .before .before .args .tokens .now) (c .before .before .before .before .before .before .before .before .before .before .before .before .before .before .before .before .before .before .before .before .before .args .index .now)) (c .before .before .before .before .before .before .before .before .before .before .before .before .before .before .before .before .before .before .before .before .before .args .levels))) (rw (c .enum-told2 .given .1))
 
 consume-requires-2 : (t : ℕ) → class-lts.Need-consume-requires-2 (claims t) (class-at t) class.Post
 consume-requires-2 t c κs = search needs
@@ -67,10 +68,10 @@ same-length-5 t c = c .before .before .before .before .before .before .before .b
 
 returns-3 : (t : ℕ) → class-lts.Need-returns-3 (claims t) (class-at t) class.Post
 unfolding run class
-returns-3 t c = rw (← c .before .before .before .before .before .before .before .before .before .before .before .before .before .before .before .before .before .before .before .before .before .before .before .consume .ensures (c .before .before .before .before .before .before .before .before .before .before .before .before .before .before .before .before .before .before .before .before .before .before .before .before .before .before .before .before .args .nodes .now), c .before .before .before .before .before .before .before .before .before .before .before .before .before .before .before .before .before .before .before .k .given .1, ← c .before .before .before .before .before .before .before .before .before .before .before .before .before .before .superclass .ensures (lower (c .before .before .before .before .before .before .before .before .before .before .before .before .before .before .before .before .before .before .before .before .before .before .before .before .before .before .before .before .args .tokens .now) (c .before .before .before .before .before .before .before .before .before .before .before .before .before .before .before .before .before .before .before .before .before .before .before .before .before .before .before .before .args .levels))) (rw (c .before .before .before .before .before .before .before .before .k2 .given .1, ← c .before .before .before .before .consume2 .ensures (c .before .before .before .before .before .before .before .before .before .before .before .before .before .before .superclass .last .1 .1 .0), c .enum-told4 .given .1))
+returns-3 t c = rw (← c .before .before .before .before .before .before .before .before .before .before .before .before .before .before .before .before .before .before .before .before .before .before .before .consume .ensures (c .before .before .before .before .before .before .before .before .before .before .before .before .before .before .before .before .before .before .before .before .before .before .before .before .before .before .before .before .before .args .nodes .now), c .before .before .before .before .before .before .before .before .before .before .before .before .before .before .before .before .before .before .before .k .given .1, ← c .before .before .before .before .before .before .before .before .before .before .before .before .before .before .superclass .ensures (lower (indexed (c .before .before .before .before .before .before .before .before .before .before .before .before .before .before .before .before .before .before .before .before .before .before .before .before .before .before .before .before .before .args .tokens .now) (c .before .before .before .before .before .before .before .before .before .before .before .before .before .before .before .before .before .before .before .before .before .before .before .before .before .before .before .before .before .args .index .now)) (c .before .before .before .before .before .before .before .before .before .before .before .before .before .before .before .before .before .before .before .before .before .before .before .before .before .before .before .before .before .args .levels))) (rw (c .before .before .before .before .before .before .before .before .k2 .given .1, ← c .before .before .before .before .consume2 .ensures (c .before .before .before .before .before .before .before .before .before .before .before .before .before .before .superclass .last .1 .1 .0), c .enum-told4 .given .1))
 
 methods-requires : (t : ℕ) → class-lts.Need-methods-requires (claims t) (class-at t) class.Post
-methods-requires t c κs = omega (arith, c .before .before .before .before .before .before .before .before .before .before .before .before .before .before .before .before .before .before .before .before .before .before .before .before .before .before .before .before .before .before .before .pre)
+methods-requires t c κs = omega (arith, c .before .before .before .before .before .before .before .before .before .before .before .before .before .before .before .before .before .before .before .before .before .before .before .before .before .before .before .before .before .before .before .before .pre)
 
 same-length-6 : (t : ℕ) → class-lts.Need-same-length-6 (claims t) (class-at t) class.Post
 same-length-6 t c = c .before .before .before .before .methods .kept .1 .0 ∙ c .before .before .before .before .before .before .before .before .before .before .before .before .consume2 .kept .1 .0 ∙ c .before .before .before .before .before .before .before .before .before .before .before .before .before .before .before .before .before .before .before .before .before .before .superclass .kept .1 .0 ∙ c .before .before .before .before .before .before .before .before .before .before .before .before .before .before .before .before .before .before .before .before .before .before .before .before .before .before .before .before .before .before .before .consume .kept .1 .0
@@ -80,7 +81,7 @@ same-length-7 t c = c .before .before .before .before .methods .kept .1 .1 .0 �
 
 returns-4 : (t : ℕ) → class-lts.Need-returns-4 (claims t) (class-at t) class.Post
 unfolding run class
-returns-4 t c = rw (← c .before .before .before .before .before .before .before .before .before .before .before .before .before .before .before .before .before .before .before .before .before .before .before .before .before .before .before .before .before .before .before .consume .ensures (c .before .before .before .before .before .before .before .before .before .before .before .before .before .before .before .before .before .before .before .before .before .before .before .before .before .before .before .before .before .before .before .before .before .before .before .before .args .nodes .now), c .before .before .before .before .before .before .before .before .before .before .before .before .before .before .before .before .before .before .before .before .before .before .before .before .before .before .before .k .given .1, ← c .before .before .before .before .before .before .before .before .before .before .before .before .before .before .before .before .before .before .before .before .before .before .superclass .ensures (lower (c .before .before .before .before .before .before .before .before .before .before .before .before .before .before .before .before .before .before .before .before .before .before .before .before .before .before .before .before .before .before .before .before .before .before .before .before .args .tokens .now) (c .before .before .before .before .before .before .before .before .before .before .before .before .before .before .before .before .before .before .before .before .before .before .before .before .before .before .before .before .before .before .before .before .before .before .before .before .args .levels))) (rw (c .before .before .before .before .before .before .before .before .before .before .before .before .before .before .before .before .k2 .given .1, ← c .before .before .before .before .before .before .before .before .before .before .before .before .consume2 .ensures (c .before .before .before .before .before .before .before .before .before .before .before .before .before .before .before .before .before .before .before .before .before .before .superclass .last .1 .1 .0), c .before .before .before .before .before .before .before .before .enum-told3 .given .1) (rw (← c .before .before .before .before .methods .ensures)))
+returns-4 t c = rw (← c .before .before .before .before .before .before .before .before .before .before .before .before .before .before .before .before .before .before .before .before .before .before .before .before .before .before .before .before .before .before .before .consume .ensures (c .before .before .before .before .before .before .before .before .before .before .before .before .before .before .before .before .before .before .before .before .before .before .before .before .before .before .before .before .before .before .before .before .before .before .before .before .before .args .nodes .now), c .before .before .before .before .before .before .before .before .before .before .before .before .before .before .before .before .before .before .before .before .before .before .before .before .before .before .before .k .given .1, ← c .before .before .before .before .before .before .before .before .before .before .before .before .before .before .before .before .before .before .before .before .before .before .superclass .ensures (lower (indexed (c .before .before .before .before .before .before .before .before .before .before .before .before .before .before .before .before .before .before .before .before .before .before .before .before .before .before .before .before .before .before .before .before .before .before .before .before .before .args .tokens .now) (c .before .before .before .before .before .before .before .before .before .before .before .before .before .before .before .before .before .before .before .before .before .before .before .before .before .before .before .before .before .before .before .before .before .before .before .before .before .args .index .now)) (c .before .before .before .before .before .before .before .before .before .before .before .before .before .before .before .before .before .before .before .before .before .before .before .before .before .before .before .before .before .before .before .before .before .before .before .before .before .args .levels))) (rw (c .before .before .before .before .before .before .before .before .before .before .before .before .before .before .before .before .k2 .given .1, ← c .before .before .before .before .before .before .before .before .before .before .before .before .consume2 .ensures (c .before .before .before .before .before .before .before .before .before .before .before .before .before .before .before .before .before .before .before .before .before .before .superclass .last .1 .1 .0), c .before .before .before .before .before .before .before .before .enum-told3 .given .1) (rw (← c .before .before .before .before .methods .ensures)))
 
 pub class-ok : {M : Type 1} (t : ℕ) → class-lts.Closed (claims t) (class-at t) class.Post M
 class-ok t = class-lts.spec (claims t) (class-at t) class.Post

@@ -6,7 +6,7 @@ use Prim.Native.Nat.{ℕ, suc, _+_, _-_, _≤_, _<_}
 use native.Mathlib.Omega.{arith}
 use lib.ListN.{length}
 use Rattle.parser.specs.declared.State.{State}
-use Rattle.parser.specs.Tokens.{count}
+use Rattle.parser.specs.Tokens.{View, indexed, count}
 use Rattle.parser.specs.Programs.{run, Assignment}
 use Rattle.parser.specs.Grammar.{lower, block, elifsFrom}
 use Rattle.pieces.proofs.Turns.{found-past, reading-past, gave-past, not-back, require-past, consume-on, make-on}
@@ -15,6 +15,7 @@ use Rattle.grammar.proofs.block.Reads as block
 use Rattle.grammar.proofs.elifs.Reads as elifs
 use Rattle.grammar.proofs.+access+arguments+assignment+binary+block+call+class+declaration+elifs+fn_expr+fn_stmt+for_c+for_in+for_loop+func+if_stmt+let_stmt+methods+pairs+primary+ret+slice+stmt+try_catch+unary+upto+while_stmt.Lts-elifs as elifs-lts
 use Rattle.parser.proofs.State.at_token.Reads as at-token-reads
+use Rattle.parser.proofs.State.looked.Reads as looked-reads
 use Rattle.parser.proofs.consume.Reads as consume-reads
 use Rattle.parser.proofs.first_of.Reads as first-of-reads
 use Rattle.parser.proofs.gives.Reads as gives-reads
@@ -26,39 +27,39 @@ use Rattle.grammar.proofs.+access+arguments+assignment+binary+block+cal
 use borrow.Author.Needs.{needs}
 
 abbrev claims : ℕ → elifs-lts.Claims
-claims t = (matches-reads.Asked, matches-reads.Learnt, gives-reads.Asked, gives-reads.Learnt, at-token-reads.Asked, at-token-reads.Learnt, assignment-below t, assignment.Post, consume-reads.Asked, consume-reads.Learnt, block-below t, block.Post, row-reads.Asked, row-reads.Learnt, make-reads.Asked, make-reads.Learnt, link-reads.Asked, link-reads.Learnt, first-of-reads.Asked, first-of-reads.Learnt)
+claims t = (matches-reads.Asked, matches-reads.Learnt, looked-reads.Asked, looked-reads.Learnt, gives-reads.Asked, gives-reads.Learnt, at-token-reads.Asked, at-token-reads.Learnt, assignment-below t, assignment.Post, consume-reads.Asked, consume-reads.Learnt, block-below t, block.Post, row-reads.Asked, row-reads.Learnt, make-reads.Asked, make-reads.Learnt, link-reads.Asked, link-reads.Learnt, first-of-reads.Asked, first-of-reads.Learnt)
 
 -- the branches that are left are the rest of the whole, with fuel for a turn for each token that is left
-record ElifsInv (T : List ℕ) (l : ℕ) (E₀ N₀ : List ℕ) (s₀ : State) (E N : List ℕ) (s : State) (first last : ℕ) : Type 0 where
+record ElifsInv (T : View) (l : ℕ) (E₀ N₀ : List ℕ) (s₀ : State) (E N : List ℕ) (s : State) (first last : ℕ) : Type 0 where
   fuel : ℕ
-  enough : count T - s .current ≤ fuel
-  same : run T (lower T l) (elifsFrom T (suc fuel) first last) s E N ≡ run T (lower T l) (elifsFrom T (suc (count T)) 0 0) s₀ E₀ N₀
+  enough : count (T .tokens) - s .current ≤ fuel
+  same : run T (lower T l) (elifsFrom T (suc fuel) first last) s E N ≡ run T (lower T l) (elifsFrom T (suc (count (T .tokens))) 0 0) s₀ E₀ N₀
   errors : length E ≡ length E₀
   nodes : length N ≡ length N₀
 
 abbrev elifs-Inv-loop : elifs-lts.InvT-loop
-elifs-Inv-loop tokens errors₀ nodes₀ levels s₀ first₀ last₀ errors nodes s first last = ElifsInv tokens levels errors₀ nodes₀ s₀ errors nodes s first last
+elifs-Inv-loop tokens errors₀ nodes₀ index levels s₀ first₀ last₀ errors nodes s first last = ElifsInv (indexed tokens index) levels errors₀ nodes₀ s₀ errors nodes s first last
 
 abbrev elifs-μ-loop : elifs-lts.MeasureT-loop
-elifs-μ-loop tokens errors₀ nodes₀ levels s₀ first₀ last₀ errors nodes s first last = count tokens - s .current
+elifs-μ-loop tokens errors₀ nodes₀ index levels s₀ first₀ last₀ errors nodes s first last = count tokens - s .current
 
 -- a turn passes a token
-turn : (t : ℕ) (c : elifs-lts.After-s (claims t) (elifs-at t) elifs.Post elifs-Inv-loop elifs-μ-loop) → (c .before .before .before .before .before .before .before .before .before .before .before .before .before .before .before .before .before .before .before .before .before .before .before .before .before .before .before .before .before .before .before .before .before .before .before .before .before .before .before .before .before .before .before .before .before .before .before .before .loop .s .current < c .before .before .before .before .before .before .before .before .before .before .before .make .result .p .current) × (c .before .before .before .before .before .before .before .before .before .before .before .before .before .before .before .before .before .before .before .before .before .before .before .before .before .before .before .before .before .before .before .before .before .before .before .before .before .before .before .before .before .before .before .before .before .before .before .before .loop .s .current < count (c .before .before .before .before .before .before .before .before .before .before .before .before .before .before .before .before .before .before .before .before .before .before .before .before .before .before .before .before .before .before .before .before .before .before .before .before .before .before .before .before .before .before .before .before .before .before .before .before .before .before .before .before .args .tokens .now))
+turn : (t : ℕ) (c : elifs-lts.After-s (claims t) (elifs-at t) elifs.Post elifs-Inv-loop elifs-μ-loop) → (c .before .before .before .before .before .before .before .before .before .before .before .before .before .before .before .before .before .before .before .before .before .before .before .before .before .before .before .before .before .before .before .before .before .before .before .before .before .before .before .before .before .before .before .before .before .before .before .before .loop .s .current < c .before .before .before .before .before .before .before .before .before .before .before .make .result .p .current) × (c .before .before .before .before .before .before .before .before .before .before .before .before .before .before .before .before .before .before .before .before .before .before .before .before .before .before .before .before .before .before .before .before .before .before .before .before .before .before .before .before .before .before .before .before .before .before .before .before .loop .s .current < count (c .before .before .before .before .before .before .before .before .before .before .before .before .before .before .before .before .before .before .before .before .before .before .before .before .before .before .before .before .before .before .before .before .before .before .before .before .before .before .before .before .before .before .before .before .before .before .before .before .before .before .before .before .before .args .tokens .now))
 turn t c =
     let g = found-past _ _ _ _ _ (c .before .before .before .before .before .before .before .before .before .before .before .before .before .before .before .before .before .before .before .before .before .before .before .before .before .before .before .before .before .before .before .before .before .before .before .before .before .before .before .before .before .before .before .before .before .before .before .matches .ensures) (c .before .before .before .before .before .before .before .before .before .before .before .before .before .before .before .before .before .before .before .before .before .before .before .before .before .before .before .before .before .before .before .before .before .before .before .before .before .before .before .before .before .before .before .before .before .i .given .1) refl in
     let a = ap (λ (x : State). x .current) (c .before .before .before .before .before .before .before .before .before .before .before .before .before .before .before .before .before .before .before .before .before .before .before .before .before .before .before .before .before .before .before .before .before .before .before .before .before .before .before .before .before .at-token .ensures) in
-    let b = reading-past (c .before .before .before .before .before .before .before .before .before .before .before .before .before .before .before .before .before .before .before .before .before .before .before .before .before .before .before .before .before .before .before .before .before .before .before .before .before .before .before .before .before .before .before .before .before .before .before .before .before .before .before .before .args .tokens .now) (c .before .before .before .before .before .before .before .before .before .before .before .before .before .before .before .before .before .before .before .before .before .before .before .before .before .before .before .before .before .before .before .before .before .before .before .before .before .before .before .before .before .before .before .before .before .before .before .before .before .before .before .before .args .levels) Assignment _ _ _ _ _ _ _ _ (c .before .before .before .before .before .before .before .before .before .before .before .before .before .before .before .before .before .before .before .before .before .before .before .before .before .before .before .before .before .before .before .before .before .before .before .before .before .before .before .before .assignment .ensures) (c .before .before .before .before .before .before .before .before .before .before .before .before .before .before .before .before .before .before .before .before .before .before .before .before .before .before .before .before .before .before .before .before .before .before .k .given .1) in
+    let b = reading-past (indexed (c .before .before .before .before .before .before .before .before .before .before .before .before .before .before .before .before .before .before .before .before .before .before .before .before .before .before .before .before .before .before .before .before .before .before .before .before .before .before .before .before .before .before .before .before .before .before .before .before .before .before .before .before .before .args .tokens .now) (c .before .before .before .before .before .before .before .before .before .before .before .before .before .before .before .before .before .before .before .before .before .before .before .before .before .before .before .before .before .before .before .before .before .before .before .before .before .before .before .before .before .before .before .before .before .before .before .before .before .before .before .before .before .args .index .now)) (c .before .before .before .before .before .before .before .before .before .before .before .before .before .before .before .before .before .before .before .before .before .before .before .before .before .before .before .before .before .before .before .before .before .before .before .before .before .before .before .before .before .before .before .before .before .before .before .before .before .before .before .before .before .args .levels) Assignment _ _ _ _ _ _ _ _ (c .before .before .before .before .before .before .before .before .before .before .before .before .before .before .before .before .before .before .before .before .before .before .before .before .before .before .before .before .before .before .before .before .before .before .before .before .before .before .before .before .assignment .ensures) (c .before .before .before .before .before .before .before .before .before .before .before .before .before .before .before .before .before .before .before .before .before .before .before .before .before .before .before .before .before .before .before .before .before .before .k .given .1) in
     let d = consume-on _ _ _ _ _ _ _ [] _ [] (c .before .before .before .before .before .before .before .before .before .before .before .before .before .before .before .before .before .before .before .before .before .before .before .before .before .before .before .before .before .before .consume .ensures []) in
-    let e = not-back (c .before .before .before .before .before .before .before .before .before .before .before .before .before .before .before .before .before .before .before .before .before .before .before .before .before .before .before .before .before .before .before .before .before .before .before .before .before .before .before .before .before .before .before .before .before .before .before .before .before .before .before .before .args .tokens .now) (c .before .before .before .before .before .before .before .before .before .before .before .before .before .before .before .before .before .before .before .before .before .before .before .before .before .before .before .before .before .before .before .before .before .before .before .before .before .before .before .before .before .before .before .before .before .before .before .before .before .before .before .before .args .levels) (block (c .before .before .before .before .before .before .before .before .before .before .before .before .before .before .before .before .before .before .before .before .before .before .before .before .before .before .before .before .before .before .before .before .before .before .before .before .before .before .before .before .before .before .before .before .before .before .before .before .before .before .before .before .args .tokens .now)) _ _ _ _ _ _ _ (c .before .before .before .before .before .before .before .before .before .before .before .before .before .before .before .before .before .before .before .before .before .before .block .ensures) in
+    let e = not-back (indexed (c .before .before .before .before .before .before .before .before .before .before .before .before .before .before .before .before .before .before .before .before .before .before .before .before .before .before .before .before .before .before .before .before .before .before .before .before .before .before .before .before .before .before .before .before .before .before .before .before .before .before .before .before .before .args .tokens .now) (c .before .before .before .before .before .before .before .before .before .before .before .before .before .before .before .before .before .before .before .before .before .before .before .before .before .before .before .before .before .before .before .before .before .before .before .before .before .before .before .before .before .before .before .before .before .before .before .before .before .before .before .before .before .args .index .now)) (c .before .before .before .before .before .before .before .before .before .before .before .before .before .before .before .before .before .before .before .before .before .before .before .before .before .before .before .before .before .before .before .before .before .before .before .before .before .before .before .before .before .before .before .before .before .before .before .before .before .before .before .before .before .args .levels) (block (indexed (c .before .before .before .before .before .before .before .before .before .before .before .before .before .before .before .before .before .before .before .before .before .before .before .before .before .before .before .before .before .before .before .before .before .before .before .before .before .before .before .before .before .before .before .before .before .before .before .before .before .before .before .before .before .args .tokens .now) (c .before .before .before .before .before .before .before .before .before .before .before .before .before .before .before .before .before .before .before .before .before .before .before .before .before .before .before .before .before .before .before .before .before .before .before .before .before .before .before .before .before .before .before .before .before .before .before .before .before .before .before .before .before .args .index .now))) _ _ _ _ _ _ _ (c .before .before .before .before .before .before .before .before .before .before .before .before .before .before .before .before .before .before .before .before .before .before .block .ensures) in
     let f = make-on _ _ _ _ [] _ [] _ (c .before .before .before .before .before .before .before .before .before .before .before .make .ensures []) in
     (omega arith, g .1)
 
-again : (t : ℕ) (c : elifs-lts.After-s (claims t) (elifs-at t) elifs.Post elifs-Inv-loop elifs-μ-loop) → run (c .before .before .before .before .before .before .before .before .before .before .before .before .before .before .before .before .before .before .before .before .before .before .before .before .before .before .before .before .before .before .before .before .before .before .before .before .before .before .before .before .before .before .before .before .before .before .before .before .before .before .before .before .args .tokens .now) (lower (c .before .before .before .before .before .before .before .before .before .before .before .before .before .before .before .before .before .before .before .before .before .before .before .before .before .before .before .before .before .before .before .before .before .before .before .before .before .before .before .before .before .before .before .before .before .before .before .before .before .before .before .before .args .tokens .now) (c .before .before .before .before .before .before .before .before .before .before .before .before .before .before .before .before .before .before .before .before .before .before .before .before .before .before .before .before .before .before .before .before .before .before .before .before .before .before .before .before .before .before .before .before .before .before .before .before .before .before .before .before .args .levels)) (elifsFrom (c .before .before .before .before .before .before .before .before .before .before .before .before .before .before .before .before .before .before .before .before .before .before .before .before .before .before .before .before .before .before .before .before .before .before .before .before .before .before .before .before .before .before .before .before .before .before .before .before .before .before .before .before .args .tokens .now) (c .before .before .before .before .before .before .before .before .before .before .before .before .before .before .before .before .before .before .before .before .before .before .before .before .before .before .before .before .before .before .before .before .before .before .before .before .before .before .before .before .before .before .before .before .before .before .before .before .loop .inv .fuel) (c .before .first-of .result) (c .before .before .before .before .before .before .before .k3 .given .0 .0 .node)) (c .before .before .before .before .before .before .before .before .before .before .before .make .result .p) (c .before .before .before .before .before .before .before .before .before .before .before .before .before .before .before .before .before .before .before .before .before .before .block .last .1 .0) (c .before .before .before .before .link .last .0) ≡ run (c .before .before .before .before .before .before .before .before .before .before .before .before .before .before .before .before .before .before .before .before .before .before .before .before .before .before .before .before .before .before .before .before .before .before .before .before .before .before .before .before .before .before .before .before .before .before .before .before .before .before .before .before .args .tokens .now) (lower (c .before .before .before .before .before .before .before .before .before .before .before .before .before .before .before .before .before .before .before .before .before .before .before .before .before .before .before .before .before .before .before .before .before .before .before .before .before .before .before .before .before .before .before .before .before .before .before .before .before .before .before .before .args .tokens .now) (c .before .before .before .before .before .before .before .before .before .before .before .before .before .before .before .before .before .before .before .before .before .before .before .before .before .before .before .before .before .before .before .before .before .before .before .before .before .before .before .before .before .before .before .before .before .before .before .before .before .before .before .before .args .levels)) (elifsFrom (c .before .before .before .before .before .before .before .before .before .before .before .before .before .before .before .before .before .before .before .before .before .before .before .before .before .before .before .before .before .before .before .before .before .before .before .before .before .before .before .before .before .before .before .before .before .before .before .before .before .before .before .before .args .tokens .now) (suc (c .before .before .before .before .before .before .before .before .before .before .before .before .before .before .before .before .before .before .before .before .before .before .before .before .before .before .before .before .before .before .before .before .before .before .before .before .before .before .before .before .before .before .before .before .before .before .before .before .loop .inv .fuel)) (c .before .before .before .before .before .before .before .before .before .before .before .before .before .before .before .before .before .before .before .before .before .before .before .before .before .before .before .before .before .before .before .before .before .before .before .before .before .before .before .before .before .before .before .before .before .before .before .before .loop .first) (c .before .before .before .before .before .before .before .before .before .before .before .before .before .before .before .before .before .before .before .before .before .before .before .before .before .before .before .before .before .before .before .before .before .before .before .before .before .before .before .before .before .before .before .before .before .before .before .before .loop .last)) (c .before .before .before .before .before .before .before .before .before .before .before .before .before .before .before .before .before .before .before .before .before .before .before .before .before .before .before .before .before .before .before .before .before .before .before .before .before .before .before .before .before .before .before .before .before .before .before .before .loop .s) (c .before .before .before .before .before .before .before .before .before .before .before .before .before .before .before .before .before .before .before .before .before .before .before .before .before .before .before .before .before .before .before .before .before .before .before .before .before .before .before .before .before .before .before .before .before .before .before .before .loop .errors) (c .before .before .before .before .before .before .before .before .before .before .before .before .before .before .before .before .before .before .before .before .before .before .before .before .before .before .before .before .before .before .before .before .before .before .before .before .before .before .before .before .before .before .before .before .before .before .before .before .loop .nodes)
+again : (t : ℕ) (c : elifs-lts.After-s (claims t) (elifs-at t) elifs.Post elifs-Inv-loop elifs-μ-loop) → run (indexed (c .before .before .before .before .before .before .before .before .before .before .before .before .before .before .before .before .before .before .before .before .before .before .before .before .before .before .before .before .before .before .before .before .before .before .before .before .before .before .before .before .before .before .before .before .before .before .before .before .before .before .before .before .before .args .tokens .now) (c .before .before .before .before .before .before .before .before .before .before .before .before .before .before .before .before .before .before .before .before .before .before .before .before .before .before .before .before .before .before .before .before .before .before .before .before .before .before .before .before .before .before .before .before .before .before .before .before .before .before .before .before .before .args .index .now)) (lower (indexed (c .before .before .before .before .before .before .before .before .before .before .before .before .before .before .before .before .before .before .before .before .before .before .before .before .before .before .before .before .before .before .before .before .before .before .before .before .before .before .before .before .before .before .before .before .before .before .before .before .before .before .before .before .before .args .tokens .now) (c .before .before .before .before .before .before .before .before .before .before .before .before .before .before .before .before .before .before .before .before .before .before .before .before .before .before .before .before .before .before .before .before .before .before .before .before .before .before .before .before .before .before .before .before .before .before .before .before .before .before .before .before .before .args .index .now)) (c .before .before .before .before .before .before .before .before .before .before .before .before .before .before .before .before .before .before .before .before .before .before .before .before .before .before .before .before .before .before .before .before .before .before .before .before .before .before .before .before .before .before .before .before .before .before .before .before .before .before .before .before .before .args .levels)) (elifsFrom (indexed (c .before .before .before .before .before .before .before .before .before .before .before .before .before .before .before .before .before .before .before .before .before .before .before .before .before .before .before .before .before .before .before .before .before .before .before .before .before .before .before .before .before .before .before .before .before .before .before .before .before .before .before .before .before .args .tokens .now) (c .before .before .before .before .before .before .before .before .before .before .before .before .before .before .before .before .before .before .before .before .before .before .before .before .before .before .before .before .before .before .before .before .before .before .before .before .before .before .before .before .before .before .before .before .before .before .before .before .before .before .before .before .before .args .index .now)) (c .before .before .before .before .before .before .before .before .before .before .before .before .before .before .before .before .before .before .before .before .before .before .before .before .before .before .before .before .before .before .before .before .before .before .before .before .before .before .before .before .before .before .before .before .before .before .before .before .loop .inv .fuel) (c .before .first-of .result) (c .before .before .before .before .before .before .before .k3 .given .0 .0 .node)) (c .before .before .before .before .before .before .before .before .before .before .before .make .result .p) (c .before .before .before .before .before .before .before .before .before .before .before .before .before .before .before .before .before .before .before .before .before .before .block .last .1 .0) (c .before .before .before .before .link .last .0) ≡ run (indexed (c .before .before .before .before .before .before .before .before .before .before .before .before .before .before .before .before .before .before .before .before .before .before .before .before .before .before .before .before .before .before .before .before .before .before .before .before .before .before .before .before .before .before .before .before .before .before .before .before .before .before .before .before .before .args .tokens .now) (c .before .before .before .before .before .before .before .before .before .before .before .before .before .before .before .before .before .before .before .before .before .before .before .before .before .before .before .before .before .before .before .before .before .before .before .before .before .before .before .before .before .before .before .before .before .before .before .before .before .before .before .before .before .args .index .now)) (lower (indexed (c .before .before .before .before .before .before .before .before .before .before .before .before .before .before .before .before .before .before .before .before .before .before .before .before .before .before .before .before .before .before .before .before .before .before .before .before .before .before .before .before .before .before .before .before .before .before .before .before .before .before .before .before .before .args .tokens .now) (c .before .before .before .before .before .before .before .before .before .before .before .before .before .before .before .before .before .before .before .before .before .before .before .before .before .before .before .before .before .before .before .before .before .before .before .before .before .before .before .before .before .before .before .before .before .before .before .before .before .before .before .before .before .args .index .now)) (c .before .before .before .before .before .before .before .before .before .before .before .before .before .before .before .before .before .before .before .before .before .before .before .before .before .before .before .before .before .before .before .before .before .before .before .before .before .before .before .before .before .before .before .before .before .before .before .before .before .before .before .before .before .args .levels)) (elifsFrom (indexed (c .before .before .before .before .before .before .before .before .before .before .before .before .before .before .before .before .before .before .before .before .before .before .before .before .before .before .before .before .before .before .before .before .before .before .before .before .before .before .before .before .before .before .before .before .before .before .before .before .before .before .before .before .before .args .tokens .now) (c .before .before .before .before .before .before .before .before .before .before .before .before .before .before .before .before .before .before .before .before .before .before .before .before .before .before .before .before .before .before .before .before .before .before .before .before .before .before .before .before .before .before .before .before .before .before .before .before .before .before .before .before .before .args .index .now)) (suc (c .before .before .before .before .before .before .before .before .before .before .before .before .before .before .before .before .before .before .before .before .before .before .before .before .before .before .before .before .before .before .before .before .before .before .before .before .before .before .before .before .before .before .before .before .before .before .before .before .loop .inv .fuel)) (c .before .before .before .before .before .before .before .before .before .before .before .before .before .before .before .before .before .before .before .before .before .before .before .before .before .before .before .before .before .before .before .before .before .before .before .before .before .before .before .before .before .before .before .before .before .before .before .before .loop .first) (c .before .before .before .before .before .before .before .before .before .before .before .before .before .before .before .before .before .before .before .before .before .before .before .before .before .before .before .before .before .before .before .before .before .before .before .before .before .before .before .before .before .before .before .before .before .before .before .before .loop .last)) (c .before .before .before .before .before .before .before .before .before .before .before .before .before .before .before .before .before .before .before .before .before .before .before .before .before .before .before .before .before .before .before .before .before .before .before .before .before .before .before .before .before .before .before .before .before .before .before .before .loop .s) (c .before .before .before .before .before .before .before .before .before .before .before .before .before .before .before .before .before .before .before .before .before .before .before .before .before .before .before .before .before .before .before .before .before .before .before .before .before .before .before .before .before .before .before .before .before .before .before .before .loop .errors) (c .before .before .before .before .before .before .before .before .before .before .before .before .before .before .before .before .before .before .before .before .before .before .before .before .before .before .before .before .before .before .before .before .before .before .before .before .before .before .before .before .before .before .before .before .before .before .before .before .loop .nodes)
 unfolding run elifsFrom
 again t c = rw (← c .before .before .before .before .before .before .before .before .before .before .before .before .before .before .before .before .before .before .before .before .before .before .before .before .before .before .before .before .before .before .before .before .before .before .before .before .before .before .before .before .before .before .before .before .before .before .before .matches .ensures, c .before .before .before .before .before .before .before .before .before .before .before .before .before .before .before .before .before .before .before .before .before .before .before .before .before .before .before .before .before .before .before .before .before .before .before .before .before .before .before .before .before .before .before .before .before .i .given .1, ← c .before .before .before .before .before .before .before .before .before .before .before .before .before .before .before .before .before .before .before .before .before .before .before .before .before .before .before .before .before .before .before .before .before .before .before .before .before .before .before .before .before .at-token .ensures) (rw (← c .before .before .before .before .before .before .before .before .before .before .before .before .before .before .before .before .before .before .before .before .before .before .before .before .before .before .before .before .before .before .before .before .before .before .before .before .before .before .before .before .assignment .ensures, c .before .before .before .before .before .before .before .before .before .before .before .before .before .before .before .before .before .before .before .before .before .before .before .before .before .before .before .before .before .before .before .before .before .before .k .given .1, ← c .before .before .before .before .before .before .before .before .before .before .before .before .before .before .before .before .before .before .before .before .before .before .before .before .before .before .before .before .before .before .consume .ensures (c .before .before .before .before .before .before .before .before .before .before .before .before .before .before .before .before .before .before .before .before .before .before .before .before .before .before .before .before .before .before .before .before .before .before .before .before .before .before .before .before .assignment .last .1 .1 .0)) (rw (c .before .before .before .before .before .before .before .before .before .before .before .before .before .before .before .before .before .before .before .before .before .before .before .before .before .before .enum-told3 .given .1, ← c .before .before .before .before .before .before .before .before .before .before .before .before .before .before .before .before .before .before .before .before .before .before .block .ensures, c .before .before .before .before .before .before .before .before .before .before .before .before .before .before .before .before .k2 .given .1) (rw (← c .before .before .before .before .before .before .before .before .before .before .before .before .row .ensures, ← c .before .before .before .before .before .before .before .before .before .before .before .make .ensures (c .before .before .before .before .before .before .before .before .before .before .before .before .before .before .before .before .before .before .before .before .before .before .block .last .1 .0), c .before .before .before .before .before .before .before .k3 .given .1) (rw (← c .before .before .before .before .link .ensures, ← c .before .first-of .ensures)))))
 
 loop-holds : (t : ℕ) → elifs-lts.Need-loop-holds (claims t) (elifs-at t) elifs.Post elifs-Inv-loop elifs-μ-loop
-loop-holds t c = record { fuel = count (c .before .before .before .args .tokens .now); enough = omega arith; same = refl; errors = refl; nodes = refl }
+loop-holds t c = record { fuel = count (c .before .before .before .before .args .tokens .now); enough = omega arith; same = refl; errors = refl; nodes = refl }
 
 matches-requires : (t : ℕ) → elifs-lts.Need-matches-requires (claims t) (elifs-at t) elifs.Post elifs-Inv-loop elifs-μ-loop
 matches-requires t c κs = search needs
@@ -69,24 +70,27 @@ enum-known-i t c = search needs
 enum-told : (t : ℕ) → elifs-lts.Need-enum-told (claims t) (elifs-at t) elifs.Post elifs-Inv-loop elifs-μ-loop
 enum-told t c = search needs
 
+looked-requires : (t : ℕ) → elifs-lts.Need-looked-requires (claims t) (elifs-at t) elifs.Post elifs-Inv-loop elifs-μ-loop
+looked-requires t c κs = search needs
+
 gives-requires : (t : ℕ) → elifs-lts.Need-gives-requires (claims t) (elifs-at t) elifs.Post elifs-Inv-loop elifs-μ-loop
 gives-requires t c κs = search needs
 
 same-length : (t : ℕ) → elifs-lts.Need-same-length (claims t) (elifs-at t) elifs.Post elifs-Inv-loop elifs-μ-loop
-same-length t c = c .before .before .before .before .loop .inv .errors
+same-length t c = c .before .before .before .before .before .loop .inv .errors
 
 same-length-2 : (t : ℕ) → elifs-lts.Need-same-length-2 (claims t) (elifs-at t) elifs.Post elifs-Inv-loop elifs-μ-loop
-same-length-2 t c = c .before .before .before .before .loop .inv .nodes
+same-length-2 t c = c .before .before .before .before .before .loop .inv .nodes
 
 returns : (t : ℕ) → elifs-lts.Need-returns (claims t) (elifs-at t) elifs.Post elifs-Inv-loop elifs-μ-loop
 unfolding run elifsFrom
-returns t c = rw (← c .before .before .before .before .loop .inv .same, ← c .before .before .before .matches .ensures, c .before .enum-told .given .1) (rw (c .gives .ensures))
+returns t c = rw (← c .before .before .before .before .before .loop .inv .same, ← c .before .before .before .before .matches .ensures, c .before .before .enum-told .given .1) (rw (← c .before .looked .ensures, c .gives .ensures))
 
 at-token-requires : (t : ℕ) → elifs-lts.Need-at-token-requires (claims t) (elifs-at t) elifs.Post elifs-Inv-loop elifs-μ-loop
 at-token-requires t c κs = search needs
 
 assignment-requires : (t : ℕ) → elifs-lts.Need-assignment-requires (claims t) (elifs-at t) elifs.Post elifs-Inv-loop elifs-μ-loop
-assignment-requires t c κs = omega (arith, c .before .before .before .before .before .before .before .before .before .before .before .pre)
+assignment-requires t c κs = omega (arith, c .before .before .before .before .before .before .before .before .before .before .before .before .pre)
 
 enum-known-k : (t : ℕ) → elifs-lts.Need-enum-known-k (claims t) (elifs-at t) elifs.Post elifs-Inv-loop elifs-μ-loop
 enum-known-k t c = search needs
@@ -124,7 +128,7 @@ unfolding run elifsFrom
 returns-3 t c = rw (← c .before .before .before .before .before .before .before .before .before .before .before .before .before .before .before .before .before .before .before .before .before .before .loop .inv .same, ← c .before .before .before .before .before .before .before .before .before .before .before .before .before .before .before .before .before .before .before .before .before .matches .ensures, c .before .before .before .before .before .before .before .before .before .before .before .before .before .before .before .before .before .before .before .i .given .1) (rw (← c .before .before .before .before .before .before .before .before .before .before .before .before .before .before .before .at-token .ensures, ← c .before .before .before .before .before .before .before .before .before .before .before .before .before .before .assignment .ensures, c .before .before .before .before .before .before .before .before .k .given .1) (rw (← c .before .before .before .before .consume .ensures (c .before .before .before .before .before .before .before .before .before .before .before .before .before .before .assignment .last .1 .1 .0), c .enum-told4 .given .1)))
 
 block-requires : (t : ℕ) → elifs-lts.Need-block-requires (claims t) (elifs-at t) elifs.Post elifs-Inv-loop elifs-μ-loop
-block-requires t c κs = omega (arith, c .before .before .before .before .before .before .before .before .before .before .before .before .before .before .before .before .before .before .before .before .before .before .before .before .before .before .before .before .before .pre)
+block-requires t c κs = omega (arith, c .before .before .before .before .before .before .before .before .before .before .before .before .before .before .before .before .before .before .before .before .before .before .before .before .before .before .before .before .before .before .pre)
 
 enum-known-k-2 : (t : ℕ) → elifs-lts.Need-enum-known-k-2 (claims t) (elifs-at t) elifs.Post elifs-Inv-loop elifs-μ-loop
 enum-known-k-2 t c = search needs
@@ -187,6 +191,7 @@ elifs-ok t = elifs-lts.spec (claims t) (elifs-at t) elifs.Post
     (matches-requires t)
     (enum-known-i t)
     (enum-told t)
+    (looked-requires t)
     (gives-requires t)
     (same-length t)
     (same-length-2 t)

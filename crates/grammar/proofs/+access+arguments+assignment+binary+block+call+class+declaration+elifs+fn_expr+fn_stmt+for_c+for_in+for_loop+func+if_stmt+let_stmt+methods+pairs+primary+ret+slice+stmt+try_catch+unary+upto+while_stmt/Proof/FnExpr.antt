@@ -1,5 +1,6 @@
 -- Made by tools/remake cycle grammar from tools/ans/grammar/fn_expr.txt: `fn-expr`, of the cycle.
 use Prim.Native.Nat.{ℕ}
+use Rattle.parser.specs.Tokens.{indexed}
 use Rattle.parser.specs.Programs.{run}
 use Rattle.parser.specs.Grammar.{lower, fnExpr}
 use Rattle.grammar.proofs.fn_expr.Reads as fn-expr
@@ -29,13 +30,13 @@ same-length t c = c .before .before .before .before .consume .kept .1 .0
 
 returns : (t : ℕ) → fn-expr-lts.Need-returns (claims t) (fn-expr-at t) fn-expr.Post
 unfolding run fnExpr
-returns t c = rw (← c .before .before .before .before .consume .ensures (c .before .before .before .before .before .before .before .before .before .args .nodes .now), c .enum-told2 .given .1)
+returns t c = rw (← c .before .before .before .before .consume .ensures (c .before .before .before .before .before .before .before .before .before .before .args .nodes .now), c .enum-told2 .given .1)
 
 with-loops-requires : (t : ℕ) → fn-expr-lts.Need-with-loops-requires (claims t) (fn-expr-at t) fn-expr.Post
 with-loops-requires t c κs = search needs
 
 func-requires : (t : ℕ) → fn-expr-lts.Need-func-requires (claims t) (fn-expr-at t) fn-expr.Post
-func-requires t c κs = omega (arith, c .before .before .before .before .before .before .before .before .before .before .before .before .before .pre)
+func-requires t c κs = omega (arith, c .before .before .before .before .before .before .before .before .before .before .before .before .before .before .pre)
 
 enum-told-3 : (t : ℕ) → fn-expr-lts.Need-enum-told-3 (claims t) (fn-expr-at t) fn-expr.Post
 enum-told-3 t c = search needs
@@ -51,7 +52,7 @@ same-length-3 t c = c .before .before .before .before .before .before .func .kep
 
 returns-2 : (t : ℕ) → fn-expr-lts.Need-returns-2 (claims t) (fn-expr-at t) fn-expr.Post
 unfolding run fnExpr
-returns-2 t c = rw (← c .before .before .before .before .before .before .before .before .before .before .before .before .before .before .before .consume .ensures (c .before .before .before .before .before .before .before .before .before .before .before .before .before .before .before .before .before .before .before .before .args .nodes .now), c .before .before .before .before .before .before .before .before .before .before .before .enum-told .given .1, ← c .before .before .before .before .before .before .before .with-loops .ensures) (rw (← c .before .before .before .before .before .before .func .ensures, c .enum-told4 .given .1))
+returns-2 t c = rw (← c .before .before .before .before .before .before .before .before .before .before .before .before .before .before .before .consume .ensures (c .before .before .before .before .before .before .before .before .before .before .before .before .before .before .before .before .before .before .before .before .before .args .nodes .now), c .before .before .before .before .before .before .before .before .before .before .before .enum-told .given .1, ← c .before .before .before .before .before .before .before .with-loops .ensures) (rw (← c .before .before .before .before .before .before .func .ensures, c .enum-told4 .given .1))
 
 with-loops-requires-2 : (t : ℕ) → fn-expr-lts.Need-with-loops-requires-2 (claims t) (fn-expr-at t) fn-expr.Post
 with-loops-requires-2 t c κs = search needs
@@ -64,7 +65,7 @@ same-length-5 t c = c .before .before .before .before .before .before .before .b
 
 returns-3 : (t : ℕ) → fn-expr-lts.Need-returns-3 (claims t) (fn-expr-at t) fn-expr.Post
 unfolding run fnExpr
-returns-3 t c = rw (← c .before .before .before .before .before .before .before .before .before .before .before .before .before .before .before .before .before .consume .ensures (c .before .before .before .before .before .before .before .before .before .before .before .before .before .before .before .before .before .before .before .before .before .before .args .nodes .now), c .before .before .before .before .before .before .before .before .before .before .before .before .before .enum-told .given .1, ← c .before .before .before .before .before .before .before .before .before .with-loops .ensures) (rw (← c .before .before .before .before .before .before .before .before .func .ensures, c .before .before .enum-told3 .given .1, ← c .with-loops2 .ensures))
+returns-3 t c = rw (← c .before .before .before .before .before .before .before .before .before .before .before .before .before .before .before .before .before .consume .ensures (c .before .before .before .before .before .before .before .before .before .before .before .before .before .before .before .before .before .before .before .before .before .before .before .args .nodes .now), c .before .before .before .before .before .before .before .before .before .before .before .before .before .enum-told .given .1, ← c .before .before .before .before .before .before .before .before .before .with-loops .ensures) (rw (← c .before .before .before .before .before .before .before .before .func .ensures, c .before .before .enum-told3 .given .1, ← c .with-loops2 .ensures))
 
 pub fn-expr-ok : {M : Type 1} (t : ℕ) → fn-expr-lts.Closed (claims t) (fn-expr-at t) fn-expr.Post M
 fn-expr-ok t = fn-expr-lts.spec (claims t) (fn-expr-at t) fn-expr.Post

@@ -1,5 +1,6 @@
 -- Made by tools/remake cycle grammar from tools/ans/grammar/fn_stmt.txt: `fn-stmt`, of the cycle.
 use Prim.Native.Nat.{ℕ}
+use Rattle.parser.specs.Tokens.{indexed}
 use Rattle.parser.specs.Programs.{run}
 use Rattle.parser.specs.Grammar.{lower, fnStmt}
 use Rattle.grammar.proofs.fn_stmt.Reads as fn-stmt
@@ -30,7 +31,7 @@ same-length t c = c .before .before .before .before .require .kept .1 .0
 
 returns : (t : ℕ) → fn-stmt-lts.Need-returns (claims t) (fn-stmt-at t) fn-stmt.Post
 unfolding run fnStmt
-returns t c = rw (← c .before .before .before .before .require .ensures (c .before .before .before .before .before .before .before .before .before .args .nodes .now), c .enum-told .given .1)
+returns t c = rw (← c .before .before .before .before .require .ensures (c .before .before .before .before .before .before .before .before .before .before .args .nodes .now), c .enum-told .given .1)
 
 with-loops-requires : (t : ℕ) → fn-stmt-lts.Need-with-loops-requires (claims t) (fn-stmt-at t) fn-stmt.Post
 with-loops-requires t c κs = search needs
@@ -49,10 +50,10 @@ same-length-2 t c = c .before .before .before .before .consume .kept .1 .0 ∙ c
 
 returns-2 : (t : ℕ) → fn-stmt-lts.Need-returns-2 (claims t) (fn-stmt-at t) fn-stmt.Post
 unfolding run fnStmt
-returns-2 t c = rw (← c .before .before .before .before .before .before .before .before .before .before .before .before .before .require .ensures (c .before .before .before .before .before .before .before .before .before .before .before .before .before .before .before .before .before .before .args .nodes .now), c .before .before .before .before .before .before .before .before .before .k .given .1, ← c .before .before .before .before .before .with-loops .ensures) (rw (← c .before .before .before .before .consume .ensures (c .before .before .before .before .before .before .before .before .before .before .before .before .before .before .before .before .before .before .args .nodes .now), c .enum-told3 .given .1))
+returns-2 t c = rw (← c .before .before .before .before .before .before .before .before .before .before .before .before .before .require .ensures (c .before .before .before .before .before .before .before .before .before .before .before .before .before .before .before .before .before .before .before .args .nodes .now), c .before .before .before .before .before .before .before .before .before .k .given .1, ← c .before .before .before .before .before .with-loops .ensures) (rw (← c .before .before .before .before .consume .ensures (c .before .before .before .before .before .before .before .before .before .before .before .before .before .before .before .before .before .before .before .args .nodes .now), c .enum-told3 .given .1))
 
 func-requires : (t : ℕ) → fn-stmt-lts.Need-func-requires (claims t) (fn-stmt-at t) fn-stmt.Post
-func-requires t c κs = omega (arith, c .before .before .before .before .before .before .before .before .before .before .before .before .before .before .before .before .before .before .before .before .before .pre)
+func-requires t c κs = omega (arith, c .before .before .before .before .before .before .before .before .before .before .before .before .before .before .before .before .before .before .before .before .before .before .pre)
 
 enum-told-4 : (t : ℕ) → fn-stmt-lts.Need-enum-told-4 (claims t) (fn-stmt-at t) fn-stmt.Post
 enum-told-4 t c = search needs
@@ -68,7 +69,7 @@ same-length-4 t c = c .before .before .before .before .before .before .func .kep
 
 returns-3 : (t : ℕ) → fn-stmt-lts.Need-returns-3 (claims t) (fn-stmt-at t) fn-stmt.Post
 unfolding run fnStmt
-returns-3 t c = rw (← c .before .before .before .before .before .before .before .before .before .before .before .before .before .before .before .before .before .before .before .before .before .before .before .require .ensures (c .before .before .before .before .before .before .before .before .before .before .before .before .before .before .before .before .before .before .before .before .before .before .before .before .before .before .before .before .args .nodes .now), c .before .before .before .before .before .before .before .before .before .before .before .before .before .before .before .before .before .before .before .k .given .1, ← c .before .before .before .before .before .before .before .before .before .before .before .before .before .before .before .with-loops .ensures) (rw (← c .before .before .before .before .before .before .before .before .before .before .before .before .before .before .consume .ensures (c .before .before .before .before .before .before .before .before .before .before .before .before .before .before .before .before .before .before .before .before .before .before .before .before .before .before .before .before .args .nodes .now), c .before .before .before .before .before .before .before .before .before .before .enum-told2 .given .1, ← c .before .before .before .before .before .before .func .ensures) (rw (c .enum-told5 .given .1)))
+returns-3 t c = rw (← c .before .before .before .before .before .before .before .before .before .before .before .before .before .before .before .before .before .before .before .before .before .before .before .require .ensures (c .before .before .before .before .before .before .before .before .before .before .before .before .before .before .before .before .before .before .before .before .before .before .before .before .before .before .before .before .before .args .nodes .now), c .before .before .before .before .before .before .before .before .before .before .before .before .before .before .before .before .before .before .before .k .given .1, ← c .before .before .before .before .before .before .before .before .before .before .before .before .before .before .before .with-loops .ensures) (rw (← c .before .before .before .before .before .before .before .before .before .before .before .before .before .before .consume .ensures (c .before .before .before .before .before .before .before .before .before .before .before .before .before .before .before .before .before .before .before .before .before .before .before .before .before .before .before .before .before .args .nodes .now), c .before .before .before .before .before .before .before .before .before .before .enum-told2 .given .1, ← c .before .before .before .before .before .before .func .ensures) (rw (c .enum-told5 .given .1)))
 
 with-loops-requires-2 : (t : ℕ) → fn-stmt-lts.Need-with-loops-requires-2 (claims t) (fn-stmt-at t) fn-stmt.Post
 with-loops-requires-2 t c κs = search needs
@@ -81,7 +82,7 @@ same-length-6 t c = c .before .before .before .before .before .before .before .b
 
 returns-4 : (t : ℕ) → fn-stmt-lts.Need-returns-4 (claims t) (fn-stmt-at t) fn-stmt.Post
 unfolding run fnStmt
-returns-4 t c = rw (← c .before .before .before .before .before .before .before .before .before .before .before .before .before .before .before .before .before .before .before .before .before .before .before .before .before .require .ensures (c .before .before .before .before .before .before .before .before .before .before .before .before .before .before .before .before .before .before .before .before .before .before .before .before .before .before .before .before .before .before .args .nodes .now), c .before .before .before .before .before .before .before .before .before .before .before .before .before .before .before .before .before .before .before .before .before .k .given .1, ← c .before .before .before .before .before .before .before .before .before .before .before .before .before .before .before .before .before .with-loops .ensures) (rw (← c .before .before .before .before .before .before .before .before .before .before .before .before .before .before .before .before .consume .ensures (c .before .before .before .before .before .before .before .before .before .before .before .before .before .before .before .before .before .before .before .before .before .before .before .before .before .before .before .before .before .before .args .nodes .now), c .before .before .before .before .before .before .before .before .before .before .before .before .enum-told2 .given .1, ← c .before .before .before .before .before .before .before .before .func .ensures) (rw (c .before .before .enum-told4 .given .1, ← c .with-loops2 .ensures)))
+returns-4 t c = rw (← c .before .before .before .before .before .before .before .before .before .before .before .before .before .before .before .before .before .before .before .before .before .before .before .before .before .require .ensures (c .before .before .before .before .before .before .before .before .before .before .before .before .before .before .before .before .before .before .before .before .before .before .before .before .before .before .before .before .before .before .before .args .nodes .now), c .before .before .before .before .before .before .before .before .before .before .before .before .before .before .before .before .before .before .before .before .before .k .given .1, ← c .before .before .before .before .before .before .before .before .before .before .before .before .before .before .before .before .before .with-loops .ensures) (rw (← c .before .before .before .before .before .before .before .before .before .before .before .before .before .before .before .before .consume .ensures (c .before .before .before .before .before .before .before .before .before .before .before .before .before .before .before .before .before .before .before .before .before .before .before .before .before .before .before .before .before .before .before .args .nodes .now), c .before .before .before .before .before .before .before .before .before .before .before .before .enum-told2 .given .1, ← c .before .before .before .before .before .before .before .before .func .ensures) (rw (c .before .before .enum-told4 .given .1, ← c .with-loops2 .ensures)))
 
 pub fn-stmt-ok : {M : Type 1} (t : ℕ) → fn-stmt-lts.Closed (claims t) (fn-stmt-at t) fn-stmt.Post M
 fn-stmt-ok t = fn-stmt-lts.spec (claims t) (fn-stmt-at t) fn-stmt.Post

@@ -1,5 +1,6 @@
 -- Made by tools/remake cycle grammar from tools/ans/grammar/for_c.txt: `for-c`, of the cycle.
 use Prim.Native.Nat.{ℕ}
+use Rattle.parser.specs.Tokens.{indexed}
 use Rattle.parser.specs.Programs.{run}
 use Rattle.parser.specs.Grammar.{lower}
 use Rattle.grammar.proofs.assignment.Reads as assignment
@@ -19,7 +20,7 @@ abbrev claims : ℕ → for-c-lts.Claims
 claims t = (assignment-below t, assignment.Post, consume-reads.Asked, consume-reads.Learnt, declaration-below t, declaration.Post, leave-loop-reads.Asked, leave-loop-reads.Learnt, row-reads.Asked, row-reads.Learnt, make-reads.Asked, make-reads.Learnt)
 
 assignment-requires : (t : ℕ) → for-c-lts.Need-assignment-requires (claims t) (for-c-at t) for-c.Post
-assignment-requires t c κs = omega (arith, c .before .before .before .before .before .pre)
+assignment-requires t c κs = omega (arith, c .before .before .before .before .before .before .pre)
 
 enum-known-k : (t : ℕ) → for-c-lts.Need-enum-known-k (claims t) (for-c-at t) for-c.Post
 enum-known-k t c = search needs
@@ -57,7 +58,7 @@ unfolding run
 returns-2 t c = rw (← c .before .before .before .before .before .before .before .before .before .before .before .before .before .before .assignment .ensures, c .before .before .before .before .before .before .before .before .k .given .1, ← c .before .before .before .before .consume .ensures (c .before .before .before .before .before .before .before .before .before .before .before .before .before .before .assignment .last .1 .1 .0)) (rw (c .enum-told3 .given .1))
 
 assignment-requires-2 : (t : ℕ) → for-c-lts.Need-assignment-requires-2 (claims t) (for-c-at t) for-c.Post
-assignment-requires-2 t c κs = omega (arith, c .before .before .before .before .before .before .before .before .before .before .before .before .before .before .before .before .before .before .before .before .before .before .before .pre)
+assignment-requires-2 t c κs = omega (arith, c .before .before .before .before .before .before .before .before .before .before .before .before .before .before .before .before .before .before .before .before .before .before .before .before .pre)
 
 enum-known-k-2 : (t : ℕ) → for-c-lts.Need-enum-known-k-2 (claims t) (for-c-at t) for-c.Post
 enum-known-k-2 t c = search needs
@@ -76,7 +77,7 @@ unfolding run
 returns-3 t c = rw (← c .before .before .before .before .before .before .before .before .before .before .before .before .before .before .before .before .before .before .before .before .before .before .before .before .assignment .ensures, c .before .before .before .before .before .before .before .before .before .before .before .before .before .before .before .before .before .before .k .given .1, ← c .before .before .before .before .before .before .before .before .before .before .before .before .before .before .consume .ensures (c .before .before .before .before .before .before .before .before .before .before .before .before .before .before .before .before .before .before .before .before .before .before .before .before .assignment .last .1 .1 .0)) (rw (c .before .before .before .before .before .before .before .before .before .before .enum-told2 .given .1, ← c .before .before .before .before .before .before .assignment2 .ensures, c .enum-told4 .given .1))
 
 declaration-requires : (t : ℕ) → for-c-lts.Need-declaration-requires (claims t) (for-c-at t) for-c.Post
-declaration-requires t c κs = omega (arith, c .before .before .before .before .before .before .before .before .before .before .before .before .before .before .before .before .before .before .before .before .before .before .before .before .before .before .before .before .before .before .before .before .before .before .pre)
+declaration-requires t c κs = omega (arith, c .before .before .before .before .before .before .before .before .before .before .before .before .before .before .before .before .before .before .before .before .before .before .before .before .before .before .before .before .before .before .before .before .before .before .before .pre)
 
 enum-known-k-3 : (t : ℕ) → for-c-lts.Need-enum-known-k-3 (claims t) (for-c-at t) for-c.Post
 enum-known-k-3 t c = search needs

@@ -1,5 +1,6 @@
 -- Made by tools/remake cycle grammar from tools/ans/grammar/for_in.txt: `for-in`, of the cycle.
 use Prim.Native.Nat.{ℕ}
+use Rattle.parser.specs.Tokens.{indexed}
 use Rattle.parser.specs.Programs.{run}
 use Rattle.parser.specs.Grammar.{lower, enhancedFor}
 use Rattle.grammar.proofs.assignment.Reads as assignment
@@ -31,7 +32,7 @@ same-length t c = c .before .before .before .before .names .kept .1 .0
 
 returns : (t : ℕ) → for-in-lts.Need-returns (claims t) (for-in-at t) for-in.Post
 unfolding run enhancedFor
-returns t c = rw (← c .before .before .before .before .names .ensures (lower (c .before .before .before .before .before .before .before .before .before .args .tokens .now) (c .before .before .before .before .before .before .before .before .before .args .levels)) (c .before .before .before .before .before .before .before .before .before .args .errors .now), c .enum-told .given .1)
+returns t c = rw (← c .before .before .before .before .names .ensures (lower (indexed (c .before .before .before .before .before .before .before .before .before .before .args .tokens .now) (c .before .before .before .before .before .before .before .before .before .before .args .index .now)) (c .before .before .before .before .before .before .before .before .before .before .args .levels)) (c .before .before .before .before .before .before .before .before .before .before .args .errors .now), c .enum-told .given .1)
 
 consume-requires : (t : ℕ) → for-in-lts.Need-consume-requires (claims t) (for-in-at t) for-in.Post
 consume-requires t c κs = search needs
@@ -50,10 +51,10 @@ same-length-3 t c = c .before .before .before .before .before .before .before .b
 
 returns-2 : (t : ℕ) → for-in-lts.Need-returns-2 (claims t) (for-in-at t) for-in.Post
 unfolding run enhancedFor
-returns-2 t c = rw (← c .before .before .before .before .before .before .before .before .before .before .before .before .names .ensures (lower (c .before .before .before .before .before .before .before .before .before .before .before .before .before .before .before .before .before .args .tokens .now) (c .before .before .before .before .before .before .before .before .before .before .before .before .before .before .before .before .before .args .levels)) (c .before .before .before .before .before .before .before .before .before .before .before .before .before .before .before .before .before .args .errors .now), c .before .before .before .before .before .before .before .before .k .given .1, ← c .before .before .before .before .consume .ensures (c .before .before .before .before .before .before .before .before .before .before .before .before .names .last .1 .0)) (rw (c .enum-told3 .given .1))
+returns-2 t c = rw (← c .before .before .before .before .before .before .before .before .before .before .before .before .names .ensures (lower (indexed (c .before .before .before .before .before .before .before .before .before .before .before .before .before .before .before .before .before .before .args .tokens .now) (c .before .before .before .before .before .before .before .before .before .before .before .before .before .before .before .before .before .before .args .index .now)) (c .before .before .before .before .before .before .before .before .before .before .before .before .before .before .before .before .before .before .args .levels)) (c .before .before .before .before .before .before .before .before .before .before .before .before .before .before .before .before .before .before .args .errors .now), c .before .before .before .before .before .before .before .before .k .given .1, ← c .before .before .before .before .consume .ensures (c .before .before .before .before .before .before .before .before .before .before .before .before .names .last .1 .0)) (rw (c .enum-told3 .given .1))
 
 assignment-requires : (t : ℕ) → for-in-lts.Need-assignment-requires (claims t) (for-in-at t) for-in.Post
-assignment-requires t c κs = omega (arith, c .before .before .before .before .before .before .before .before .before .before .before .before .before .before .before .before .before .before .before .before .pre)
+assignment-requires t c κs = omega (arith, c .before .before .before .before .before .before .before .before .before .before .before .before .before .before .before .before .before .before .before .before .before .pre)
 
 enum-known-k-2 : (t : ℕ) → for-in-lts.Need-enum-known-k-2 (claims t) (for-in-at t) for-in.Post
 enum-known-k-2 t c = search needs
@@ -69,10 +70,10 @@ same-length-5 t c = c .before .before .before .before .before .before .assignmen
 
 returns-3 : (t : ℕ) → for-in-lts.Need-returns-3 (claims t) (for-in-at t) for-in.Post
 unfolding run enhancedFor
-returns-3 t c = rw (← c .before .before .before .before .before .before .before .before .before .before .before .before .before .before .before .before .before .before .before .before .before .before .names .ensures (lower (c .before .before .before .before .before .before .before .before .before .before .before .before .before .before .before .before .before .before .before .before .before .before .before .before .before .before .before .args .tokens .now) (c .before .before .before .before .before .before .before .before .before .before .before .before .before .before .before .before .before .before .before .before .before .before .before .before .before .before .before .args .levels)) (c .before .before .before .before .before .before .before .before .before .before .before .before .before .before .before .before .before .before .before .before .before .before .before .before .before .before .before .args .errors .now), c .before .before .before .before .before .before .before .before .before .before .before .before .before .before .before .before .before .before .k .given .1, ← c .before .before .before .before .before .before .before .before .before .before .before .before .before .before .consume .ensures (c .before .before .before .before .before .before .before .before .before .before .before .before .before .before .before .before .before .before .before .before .before .before .names .last .1 .0)) (rw (c .before .before .before .before .before .before .before .before .before .before .enum-told2 .given .1, ← c .before .before .before .before .before .before .assignment .ensures, c .enum-told4 .given .1))
+returns-3 t c = rw (← c .before .before .before .before .before .before .before .before .before .before .before .before .before .before .before .before .before .before .before .before .before .before .names .ensures (lower (indexed (c .before .before .before .before .before .before .before .before .before .before .before .before .before .before .before .before .before .before .before .before .before .before .before .before .before .before .before .before .args .tokens .now) (c .before .before .before .before .before .before .before .before .before .before .before .before .before .before .before .before .before .before .before .before .before .before .before .before .before .before .before .before .args .index .now)) (c .before .before .before .before .before .before .before .before .before .before .before .before .before .before .before .before .before .before .before .before .before .before .before .before .before .before .before .before .args .levels)) (c .before .before .before .before .before .before .before .before .before .before .before .before .before .before .before .before .before .before .before .before .before .before .before .before .before .before .before .before .args .errors .now), c .before .before .before .before .before .before .before .before .before .before .before .before .before .before .before .before .before .before .k .given .1, ← c .before .before .before .before .before .before .before .before .before .before .before .before .before .before .consume .ensures (c .before .before .before .before .before .before .before .before .before .before .before .before .before .before .before .before .before .before .before .before .before .before .names .last .1 .0)) (rw (c .before .before .before .before .before .before .before .before .before .before .enum-told2 .given .1, ← c .before .before .before .before .before .before .assignment .ensures, c .enum-told4 .given .1))
 
 declaration-requires : (t : ℕ) → for-in-lts.Need-declaration-requires (claims t) (for-in-at t) for-in.Post
-declaration-requires t c κs = omega (arith, c .before .before .before .before .before .before .before .before .before .before .before .before .before .before .before .before .before .before .before .before .before .before .before .before .before .before .before .before .before .before .before .pre)
+declaration-requires t c κs = omega (arith, c .before .before .before .before .before .before .before .before .before .before .before .before .before .before .before .before .before .before .before .before .before .before .before .before .before .before .before .before .before .before .before .before .pre)
 
 for-node-requires : (t : ℕ) → for-in-lts.Need-for-node-requires (claims t) (for-in-at t) for-in.Post
 for-node-requires t c κs = search needs
@@ -85,7 +86,7 @@ same-length-7 t c = c .before .before .for-node .kept .0 ∙ c .before .before .
 
 returns-4 : (t : ℕ) → for-in-lts.Need-returns-4 (claims t) (for-in-at t) for-in.Post
 unfolding run enhancedFor
-returns-4 t c = rw (← c .before .before .before .before .before .before .before .before .before .before .before .before .before .before .before .before .before .before .before .before .before .before .before .before .before .before .before .before .before .before .before .before .before .before .before .names .ensures (lower (c .before .before .before .before .before .before .before .before .before .before .before .before .before .before .before .before .before .before .before .before .before .before .before .before .before .before .before .before .before .before .before .before .before .before .before .before .before .before .before .before .args .tokens .now) (c .before .before .before .before .before .before .before .before .before .before .before .before .before .before .before .before .before .before .before .before .before .before .before .before .before .before .before .before .before .before .before .before .before .before .before .before .before .before .before .before .args .levels)) (c .before .before .before .before .before .before .before .before .before .before .before .before .before .before .before .before .before .before .before .before .before .before .before .before .before .before .before .before .before .before .before .before .before .before .before .before .before .before .before .before .args .errors .now), c .before .before .before .before .before .before .before .before .before .before .before .before .before .before .before .before .before .before .before .before .before .before .before .before .before .before .before .before .before .before .before .k .given .1, ← c .before .before .before .before .before .before .before .before .before .before .before .before .before .before .before .before .before .before .before .before .before .before .before .before .before .before .before .consume .ensures (c .before .before .before .before .before .before .before .before .before .before .before .before .before .before .before .before .before .before .before .before .before .before .before .before .before .before .before .before .before .before .before .before .before .before .before .names .last .1 .0)) (rw (c .before .before .before .before .before .before .before .before .before .before .before .before .before .before .before .before .before .before .before .before .before .before .before .enum-told2 .given .1, ← c .before .before .before .before .before .before .before .before .before .before .before .before .before .before .before .before .before .before .before .assignment .ensures, c .before .before .before .before .before .before .before .before .before .before .before .before .before .k2 .given .1) (rw (← c .before .before .before .before .before .before .before .before .declaration .ensures, ← c .before .before .for-node .ensures (c .before .before .before .before .before .before .before .before .declaration .last .1 .0))))
+returns-4 t c = rw (← c .before .before .before .before .before .before .before .before .before .before .before .before .before .before .before .before .before .before .before .before .before .before .before .before .before .before .before .before .before .before .before .before .before .before .before .names .ensures (lower (indexed (c .before .before .before .before .before .before .before .before .before .before .before .before .before .before .before .before .before .before .before .before .before .before .before .before .before .before .before .before .before .before .before .before .before .before .before .before .before .before .before .before .before .args .tokens .now) (c .before .before .before .before .before .before .before .before .before .before .before .before .before .before .before .before .before .before .before .before .before .before .before .before .before .before .before .before .before .before .before .before .before .before .before .before .before .before .before .before .before .args .index .now)) (c .before .before .before .before .before .before .before .before .before .before .before .before .before .before .before .before .before .before .before .before .before .before .before .before .before .before .before .before .before .before .before .before .before .before .before .before .before .before .before .before .before .args .levels)) (c .before .before .before .before .before .before .before .before .before .before .before .before .before .before .before .before .before .before .before .before .before .before .before .before .before .before .before .before .before .before .before .before .before .before .before .before .before .before .before .before .before .args .errors .now), c .before .before .before .before .before .before .before .before .before .before .before .before .before .before .before .before .before .before .before .before .before .before .before .before .before .before .before .before .before .before .before .k .given .1, ← c .before .before .before .before .before .before .before .before .before .before .before .before .before .before .before .before .before .before .before .before .before .before .before .before .before .before .before .consume .ensures (c .before .before .before .before .before .before .before .before .before .before .before .before .before .before .before .before .before .before .before .before .before .before .before .before .before .before .before .before .before .before .before .before .before .before .before .names .last .1 .0)) (rw (c .before .before .before .before .before .before .before .before .before .before .before .before .before .before .before .before .before .before .before .before .before .before .before .enum-told2 .given .1, ← c .before .before .before .before .before .before .before .before .before .before .before .before .before .before .before .before .before .before .before .assignment .ensures, c .before .before .before .before .before .before .before .before .before .before .before .before .before .k2 .given .1) (rw (← c .before .before .before .before .before .before .before .before .declaration .ensures, ← c .before .before .for-node .ensures (c .before .before .before .before .before .before .before .before .declaration .last .1 .0))))
 
 pub for-in-ok : {M : Type 1} (t : ℕ) → for-in-lts.Closed (claims t) (for-in-at t) for-in.Post M
 for-in-ok t = for-in-lts.spec (claims t) (for-in-at t) for-in.Post

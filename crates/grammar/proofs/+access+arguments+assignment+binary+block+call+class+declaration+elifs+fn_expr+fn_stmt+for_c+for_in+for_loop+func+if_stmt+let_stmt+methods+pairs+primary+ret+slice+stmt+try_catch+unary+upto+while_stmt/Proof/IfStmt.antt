@@ -1,5 +1,8 @@
 -- Made by tools/remake cycle grammar from tools/ans/grammar/if_stmt.txt: `if-stmt`, of the cycle.
 use Prim.Native.Nat.{ℕ}
+use Rattle.parser.specs.Tokens.{indexed}
+use Rattle.parser.specs.Tables.{pushNode}
+use Rattle.parser.specs.Nodes.{ifRow}
 use Rattle.parser.specs.Programs.{run}
 use Rattle.parser.specs.Grammar.{lower, ifStmt, block, fuel}
 use Rattle.grammar.proofs.Else.{else-block}
@@ -9,6 +12,7 @@ use Rattle.grammar.proofs.elifs.Reads as elifs
 use Rattle.grammar.proofs.if_stmt.Reads as if-stmt
 use Rattle.grammar.proofs.+access+arguments+assignment+binary+block+call+class+declaration+elifs+fn_expr+fn_stmt+for_c+for_in+for_loop+func+if_stmt+let_stmt+methods+pairs+primary+ret+slice+stmt+try_catch+unary+upto+while_stmt.Lts-if_stmt as if-stmt-lts
 use Rattle.parser.proofs.State.at_token.Reads as at-token-reads
+use Rattle.parser.proofs.State.looked.Reads as looked-reads
 use Rattle.parser.proofs.consume.Reads as consume-reads
 use Rattle.parser.proofs.make.Reads as make-reads
 use Rattle.parser.proofs.matches.Reads as matches-reads
@@ -20,10 +24,10 @@ use native.Mathlib.Omega.{arith}
 use mathlib.Core.Path.{_∙_}
 
 abbrev claims : ℕ → if-stmt-lts.Claims
-claims t = (assignment-below t, assignment.Post, consume-reads.Asked, consume-reads.Learnt, block-below t, block.Post, elifs-below t, elifs.Post, matches-reads.Asked, matches-reads.Learnt, row-reads.Asked, row-reads.Learnt, make-reads.Asked, make-reads.Learnt, at-token-reads.Asked, at-token-reads.Learnt, if-node-reads.Asked, if-node-reads.Learnt)
+claims t = (assignment-below t, assignment.Post, consume-reads.Asked, consume-reads.Learnt, block-below t, block.Post, elifs-below t, elifs.Post, matches-reads.Asked, matches-reads.Learnt, looked-reads.Asked, looked-reads.Learnt, row-reads.Asked, row-reads.Learnt, make-reads.Asked, make-reads.Learnt, at-token-reads.Asked, at-token-reads.Learnt, if-node-reads.Asked, if-node-reads.Learnt)
 
 assignment-requires : (t : ℕ) → if-stmt-lts.Need-assignment-requires (claims t) (if-stmt-at t) if-stmt.Post
-assignment-requires t c κs = omega (arith, c .before .before .before .before .before .pre)
+assignment-requires t c κs = omega (arith, c .before .before .before .before .before .before .pre)
 
 enum-known-k : (t : ℕ) → if-stmt-lts.Need-enum-known-k (claims t) (if-stmt-at t) if-stmt.Post
 enum-known-k t c = search needs
@@ -61,7 +65,7 @@ unfolding run ifStmt block
 returns-2 t c = rw (← c .before .before .before .before .before .before .before .before .before .before .before .before .before .before .assignment .ensures, c .before .before .before .before .before .before .before .before .k .given .1, ← c .before .before .before .before .consume .ensures (c .before .before .before .before .before .before .before .before .before .before .before .before .before .before .assignment .last .1 .1 .0)) (rw (c .enum-told3 .given .1))
 
 block-requires : (t : ℕ) → if-stmt-lts.Need-block-requires (claims t) (if-stmt-at t) if-stmt.Post
-block-requires t c κs = omega (arith, c .before .before .before .before .before .before .before .before .before .before .before .before .before .before .before .before .before .before .before .before .before .before .before .pre)
+block-requires t c κs = omega (arith, c .before .before .before .before .before .before .before .before .before .before .before .before .before .before .before .before .before .before .before .before .before .before .before .before .pre)
 
 enum-known-k-2 : (t : ℕ) → if-stmt-lts.Need-enum-known-k-2 (claims t) (if-stmt-at t) if-stmt.Post
 enum-known-k-2 t c = search needs
@@ -80,7 +84,7 @@ unfolding run ifStmt block
 returns-3 t c = rw (← c .before .before .before .before .before .before .before .before .before .before .before .before .before .before .before .before .before .before .before .before .before .before .before .before .assignment .ensures, c .before .before .before .before .before .before .before .before .before .before .before .before .before .before .before .before .before .before .k .given .1, ← c .before .before .before .before .before .before .before .before .before .before .before .before .before .before .consume .ensures (c .before .before .before .before .before .before .before .before .before .before .before .before .before .before .before .before .before .before .before .before .before .before .before .before .assignment .last .1 .1 .0)) (rw (c .before .before .before .before .before .before .before .before .before .before .enum-told2 .given .1, ← c .before .before .before .before .before .before .block .ensures, c .enum-told4 .given .1))
 
 elifs-requires : (t : ℕ) → if-stmt-lts.Need-elifs-requires (claims t) (if-stmt-at t) if-stmt.Post
-elifs-requires t c κs = omega (arith, c .before .before .before .before .before .before .before .before .before .before .before .before .before .before .before .before .before .before .before .before .before .before .before .before .before .before .before .before .before .before .before .before .before .before .pre)
+elifs-requires t c κs = omega (arith, c .before .before .before .before .before .before .before .before .before .before .before .before .before .before .before .before .before .before .before .before .before .before .before .before .before .before .before .before .before .before .before .before .before .before .before .pre)
 
 enum-known-k-3 : (t : ℕ) → if-stmt-lts.Need-enum-known-k-3 (claims t) (if-stmt-at t) if-stmt.Post
 enum-known-k-3 t c = search needs
@@ -107,6 +111,9 @@ enum-known-i t c = search needs
 enum-told-6 : (t : ℕ) → if-stmt-lts.Need-enum-told-6 (claims t) (if-stmt-at t) if-stmt.Post
 enum-told-6 t c = search needs
 
+looked-requires : (t : ℕ) → if-stmt-lts.Need-looked-requires (claims t) (if-stmt-at t) if-stmt.Post
+looked-requires t c κs = search needs
+
 row-requires : (t : ℕ) → if-stmt-lts.Need-row-requires (claims t) (if-stmt-at t) if-stmt.Post
 row-requires t c κs = search needs
 
@@ -114,14 +121,14 @@ make-requires : (t : ℕ) → if-stmt-lts.Need-make-requires (claims t) (if-stmt
 make-requires t c κs = search needs
 
 same-length-9 : (t : ℕ) → if-stmt-lts.Need-same-length-9 (claims t) (if-stmt-at t) if-stmt.Post
-same-length-9 t c = c .before .before .before .before .before .before .before .before .before .before .before .before .before .before .before .before .elifs .kept .1 .0 ∙ c .before .before .before .before .before .before .before .before .before .before .before .before .before .before .before .before .before .before .before .before .before .before .before .before .before .before .before .block .kept .1 .0 ∙ c .before .before .before .before .before .before .before .before .before .before .before .before .before .before .before .before .before .before .before .before .before .before .before .before .before .before .before .before .before .before .before .before .before .before .before .consume .kept .1 .0 ∙ c .before .before .before .before .before .before .before .before .before .before .before .before .before .before .before .before .before .before .before .before .before .before .before .before .before .before .before .before .before .before .before .before .before .before .before .before .before .before .before .before .before .before .before .before .before .assignment .kept .1 .0
+same-length-9 t c = c .before .before .before .before .before .before .before .before .before .before .before .before .before .before .before .before .before .elifs .kept .1 .0 ∙ c .before .before .before .before .before .before .before .before .before .before .before .before .before .before .before .before .before .before .before .before .before .before .before .before .before .before .before .before .block .kept .1 .0 ∙ c .before .before .before .before .before .before .before .before .before .before .before .before .before .before .before .before .before .before .before .before .before .before .before .before .before .before .before .before .before .before .before .before .before .before .before .before .consume .kept .1 .0 ∙ c .before .before .before .before .before .before .before .before .before .before .before .before .before .before .before .before .before .before .before .before .before .before .before .before .before .before .before .before .before .before .before .before .before .before .before .before .before .before .before .before .before .before .before .before .before .before .assignment .kept .1 .0
 
 same-length-10 : (t : ℕ) → if-stmt-lts.Need-same-length-10 (claims t) (if-stmt-at t) if-stmt.Post
-same-length-10 t c = c .before .before .make .kept .0 ∙ c .before .before .before .before .before .before .before .before .before .before .before .before .before .before .before .before .elifs .kept .1 .1 .0 ∙ c .before .before .before .before .before .before .before .before .before .before .before .before .before .before .before .before .before .before .before .before .before .before .before .before .before .before .before .block .kept .1 .1 .0 ∙ c .before .before .before .before .before .before .before .before .before .before .before .before .before .before .before .before .before .before .before .before .before .before .before .before .before .before .before .before .before .before .before .before .before .before .before .before .before .before .before .before .before .before .before .before .before .assignment .kept .1 .1 .0
+same-length-10 t c = c .before .before .make .kept .0 ∙ c .before .before .before .before .before .before .before .before .before .before .before .before .before .before .before .before .before .elifs .kept .1 .1 .0 ∙ c .before .before .before .before .before .before .before .before .before .before .before .before .before .before .before .before .before .before .before .before .before .before .before .before .before .before .before .before .block .kept .1 .1 .0 ∙ c .before .before .before .before .before .before .before .before .before .before .before .before .before .before .before .before .before .before .before .before .before .before .before .before .before .before .before .before .before .before .before .before .before .before .before .before .before .before .before .before .before .before .before .before .before .before .assignment .kept .1 .1 .0
 
 returns-5 : (t : ℕ) → if-stmt-lts.Need-returns-5 (claims t) (if-stmt-at t) if-stmt.Post
 unfolding run ifStmt block
-returns-5 t c = rw (← c .before .before .before .before .before .before .before .before .before .before .before .before .before .before .before .before .before .before .before .before .before .before .before .before .before .before .before .before .before .before .before .before .before .before .before .before .before .before .before .before .before .before .before .before .before .assignment .ensures, c .before .before .before .before .before .before .before .before .before .before .before .before .before .before .before .before .before .before .before .before .before .before .before .before .before .before .before .before .before .before .before .before .before .before .before .before .before .before .before .k .given .1, ← c .before .before .before .before .before .before .before .before .before .before .before .before .before .before .before .before .before .before .before .before .before .before .before .before .before .before .before .before .before .before .before .before .before .before .before .consume .ensures (c .before .before .before .before .before .before .before .before .before .before .before .before .before .before .before .before .before .before .before .before .before .before .before .before .before .before .before .before .before .before .before .before .before .before .before .before .before .before .before .before .before .before .before .before .before .assignment .last .1 .1 .0)) (rw (c .before .before .before .before .before .before .before .before .before .before .before .before .before .before .before .before .before .before .before .before .before .before .before .before .before .before .before .before .before .before .before .enum-told2 .given .1, ← c .before .before .before .before .before .before .before .before .before .before .before .before .before .before .before .before .before .before .before .before .before .before .before .before .before .before .before .block .ensures, c .before .before .before .before .before .before .before .before .before .before .before .before .before .before .before .before .before .before .before .before .before .k2 .given .1) (rw (← c .before .before .before .before .before .before .before .before .before .before .before .before .before .before .before .before .elifs .ensures, c .before .before .before .before .before .before .before .before .before .before .k3 .given .1, ← c .before .before .before .before .before .before .before .matches .ensures) (rw (c .before .before .before .before .before .enum-told6 .given .1, ← c .before .before .before .row .ensures, ← c .before .before .make .ensures (c .before .before .before .before .before .before .before .before .before .before .before .before .before .before .before .before .elifs .last .1 .0)))))
+returns-5 t c = rw (← c .before .before .before .before .before .before .before .before .before .before .before .before .before .before .before .before .before .before .before .before .before .before .before .before .before .before .before .before .before .before .before .before .before .before .before .before .before .before .before .before .before .before .before .before .before .before .assignment .ensures, c .before .before .before .before .before .before .before .before .before .before .before .before .before .before .before .before .before .before .before .before .before .before .before .before .before .before .before .before .before .before .before .before .before .before .before .before .before .before .before .before .k .given .1, ← c .before .before .before .before .before .before .before .before .before .before .before .before .before .before .before .before .before .before .before .before .before .before .before .before .before .before .before .before .before .before .before .before .before .before .before .before .consume .ensures (c .before .before .before .before .before .before .before .before .before .before .before .before .before .before .before .before .before .before .before .before .before .before .before .before .before .before .before .before .before .before .before .before .before .before .before .before .before .before .before .before .before .before .before .before .before .before .assignment .last .1 .1 .0)) (rw (c .before .before .before .before .before .before .before .before .before .before .before .before .before .before .before .before .before .before .before .before .before .before .before .before .before .before .before .before .before .before .before .before .enum-told2 .given .1, ← c .before .before .before .before .before .before .before .before .before .before .before .before .before .before .before .before .before .before .before .before .before .before .before .before .before .before .before .before .block .ensures, c .before .before .before .before .before .before .before .before .before .before .before .before .before .before .before .before .before .before .before .before .before .before .k2 .given .1) (rw (← c .before .before .before .before .before .before .before .before .before .before .before .before .before .before .before .before .before .elifs .ensures, c .before .before .before .before .before .before .before .before .before .before .before .k3 .given .1, ← c .before .before .before .before .before .before .before .before .matches .ensures) (rw (c .before .before .before .before .before .before .enum-told6 .given .1, ← c .before .before .before .before .looked .ensures, ← c .before .before .before .row .ensures) (rw (← c .before .before .make .ensures (c .before .before .before .before .before .before .before .before .before .before .before .before .before .before .before .before .before .elifs .last .1 .0))))))
 
 at-token-requires : (t : ℕ) → if-stmt-lts.Need-at-token-requires (claims t) (if-stmt-at t) if-stmt.Post
 at-token-requires t c κs = search needs
@@ -146,7 +153,7 @@ unfolding run ifStmt block
 returns-6 t c = rw (← c .before .before .before .before .before .before .before .before .before .before .before .before .before .before .before .before .before .before .before .before .before .before .before .before .before .before .before .before .before .before .before .before .before .before .before .before .before .before .before .before .before .before .before .before .before .before .before .before .assignment .ensures, c .before .before .before .before .before .before .before .before .before .before .before .before .before .before .before .before .before .before .before .before .before .before .before .before .before .before .before .before .before .before .before .before .before .before .before .before .before .before .before .before .before .before .k .given .1, ← c .before .before .before .before .before .before .before .before .before .before .before .before .before .before .before .before .before .before .before .before .before .before .before .before .before .before .before .before .before .before .before .before .before .before .before .before .before .before .consume .ensures (c .before .before .before .before .before .before .before .before .before .before .before .before .before .before .before .before .before .before .before .before .before .before .before .before .before .before .before .before .before .before .before .before .before .before .before .before .before .before .before .before .before .before .before .before .before .before .before .before .assignment .last .1 .1 .0)) (rw (c .before .before .before .before .before .before .before .before .before .before .before .before .before .before .before .before .before .before .before .before .before .before .before .before .before .before .before .before .before .before .before .before .before .before .enum-told2 .given .1, ← c .before .before .before .before .before .before .before .before .before .before .before .before .before .before .before .before .before .before .before .before .before .before .before .before .before .before .before .before .before .before .block .ensures, c .before .before .before .before .before .before .before .before .before .before .before .before .before .before .before .before .before .before .before .before .before .before .before .before .k2 .given .1) (rw (← c .before .before .before .before .before .before .before .before .before .before .before .before .before .before .before .before .before .before .before .elifs .ensures, c .before .before .before .before .before .before .before .before .before .before .before .before .before .k3 .given .1, ← c .before .before .before .before .before .before .before .before .before .before .matches .ensures) (rw (c .before .before .before .before .before .before .before .before .i .given .1, ← c .before .before .before .before .before .at-token .ensures, ← c .before .before .before .before .consume2 .ensures (c .before .before .before .before .before .before .before .before .before .before .before .before .before .before .before .before .before .before .before .elifs .last .1 .1 .0)) (rw (c .enum-told8 .given .1)))))
 
 block-requires-2 : (t : ℕ) → if-stmt-lts.Need-block-requires-2 (claims t) (if-stmt-at t) if-stmt.Post
-block-requires-2 t c κs = omega (arith, c .before .before .before .before .before .before .before .before .before .before .before .before .before .before .before .before .before .before .before .before .before .before .before .before .before .before .before .before .before .before .before .before .before .before .before .before .before .before .before .before .before .before .before .before .before .before .before .before .before .before .before .before .before .before .before .before .before .pre)
+block-requires-2 t c κs = omega (arith, c .before .before .before .before .before .before .before .before .before .before .before .before .before .before .before .before .before .before .before .before .before .before .before .before .before .before .before .before .before .before .before .before .before .before .before .before .before .before .before .before .before .before .before .before .before .before .before .before .before .before .before .before .before .before .before .before .before .before .pre)
 
 if-node-requires : (t : ℕ) → if-stmt-lts.Need-if-node-requires (claims t) (if-stmt-at t) if-stmt.Post
 if-node-requires t c κs = search needs
@@ -160,7 +167,7 @@ same-length-14 t c = c .before .before .if-node .kept .0 ∙ c .before .before .
 returns-7 : (t : ℕ) → if-stmt-lts.Need-returns-7 (claims t) (if-stmt-at t) if-stmt.Post
 unfolding run ifStmt block
 returns-7 t c =
-    let h = else-block (c .before .before .before .before .before .before .before .before .before .before .before .before .before .before .before .before .before .before .before .before .before .before .before .before .before .before .before .before .before .before .before .before .before .before .before .before .before .before .before .before .before .before .before .before .before .before .before .before .before .before .before .before .before .before .before .before .before .before .before .before .before .before .before .before .before .before .args .tokens .now) (lower (c .before .before .before .before .before .before .before .before .before .before .before .before .before .before .before .before .before .before .before .before .before .before .before .before .before .before .before .before .before .before .before .before .before .before .before .before .before .before .before .before .before .before .before .before .before .before .before .before .before .before .before .before .before .before .before .before .before .before .before .before .before .before .before .before .before .before .args .tokens .now) (c .before .before .before .before .before .before .before .before .before .before .before .before .before .before .before .before .before .before .before .before .before .before .before .before .before .before .before .before .before .before .before .before .before .before .before .before .before .before .before .before .before .before .before .before .before .before .before .before .before .before .before .before .before .before .before .before .before .before .before .before .before .before .before .before .before .before .args .levels)) (fuel (c .before .before .before .before .before .before .before .before .before .before .before .before .before .before .before .before .before .before .before .before .before .before .before .before .before .before .before .before .before .before .before .before .before .before .before .before .before .before .before .before .before .before .before .before .before .before .before .before .before .before .before .before .before .before .before .before .before .before .before .before .before .before .before .before .before .before .args .tokens .now)) 0 0 (c .before .before .before .before .before .before .before .before .before .before .before .before .before .before .before .before .consume2 .result .p) (c .before .before .before .before .before .before .before .before .before .before .before .before .before .before .before .before .consume2 .last .1 .0) (c .before .before .before .before .before .before .before .before .before .before .before .before .before .before .before .before .before .before .before .before .before .before .before .before .before .before .before .before .before .before .before .elifs .last .1 .1 .0) in
+    let h = else-block (indexed (c .before .before .before .before .before .before .before .before .before .before .before .before .before .before .before .before .before .before .before .before .before .before .before .before .before .before .before .before .before .before .before .before .before .before .before .before .before .before .before .before .before .before .before .before .before .before .before .before .before .before .before .before .before .before .before .before .before .before .before .before .before .before .before .before .before .before .before .args .tokens .now) (c .before .before .before .before .before .before .before .before .before .before .before .before .before .before .before .before .before .before .before .before .before .before .before .before .before .before .before .before .before .before .before .before .before .before .before .before .before .before .before .before .before .before .before .before .before .before .before .before .before .before .before .before .before .before .before .before .before .before .before .before .before .before .before .before .before .before .before .args .index .now)) (lower (indexed (c .before .before .before .before .before .before .before .before .before .before .before .before .before .before .before .before .before .before .before .before .before .before .before .before .before .before .before .before .before .before .before .before .before .before .before .before .before .before .before .before .before .before .before .before .before .before .before .before .before .before .before .before .before .before .before .before .before .before .before .before .before .before .before .before .before .before .before .args .tokens .now) (c .before .before .before .before .before .before .before .before .before .before .before .before .before .before .before .before .before .before .before .before .before .before .before .before .before .before .before .before .before .before .before .before .before .before .before .before .before .before .before .before .before .before .before .before .before .before .before .before .before .before .before .before .before .before .before .before .before .before .before .before .before .before .before .before .before .before .before .args .index .now)) (c .before .before .before .before .before .before .before .before .before .before .before .before .before .before .before .before .before .before .before .before .before .before .before .before .before .before .before .before .before .before .before .before .before .before .before .before .before .before .before .before .before .before .before .before .before .before .before .before .before .before .before .before .before .before .before .before .before .before .before .before .before .before .before .before .before .before .before .args .levels)) (λ o q E N. pushNode (ifRow (c .before .before .before .before .before .before .before .before .before .before .before .before .before .before .before .before .before .before .before .before .before .before .before .before .before .before .before .before .before .before .before .before .before .before .before .before .before .before .before .before .before .before .before .before .before .before .before .before .before .before .before .before .before .before .before .before .before .before .before .before .before .before .before .before .before .before .before .args .keyword) (c .before .before .before .before .before .before .before .before .before .before .before .before .before .before .before .before .before .before .before .before .before .before .before .before .before .before .before .before .before .before .before .before .before .before .before .before .before .before .before .before .before .before .before .before .before .before .before .before .before .before .before .before .before .before .k .given .0 .0 .node) (c .before .before .before .before .before .before .before .before .before .before .before .before .before .before .before .before .before .before .before .before .before .before .before .before .before .before .before .before .before .before .before .before .before .before .before .before .k2 .given .0 .0 .node) (c .before .before .before .before .before .before .before .before .before .before .before .before .before .before .before .before .before .before .before .before .before .before .before .before .before .k3 .given .0 .0 .node) (o .node)) q E N) (fuel (indexed (c .before .before .before .before .before .before .before .before .before .before .before .before .before .before .before .before .before .before .before .before .before .before .before .before .before .before .before .before .before .before .before .before .before .before .before .before .before .before .before .before .before .before .before .before .before .before .before .before .before .before .before .before .before .before .before .before .before .before .before .before .before .before .before .before .before .before .before .args .tokens .now) (c .before .before .before .before .before .before .before .before .before .before .before .before .before .before .before .before .before .before .before .before .before .before .before .before .before .before .before .before .before .before .before .before .before .before .before .before .before .before .before .before .before .before .before .before .before .before .before .before .before .before .before .before .before .before .before .before .before .before .before .before .before .before .before .before .before .before .before .args .index .now))) 0 0 (c .before .before .before .before .before .before .before .before .before .before .before .before .before .before .before .before .consume2 .result .p) (c .before .before .before .before .before .before .before .before .before .before .before .before .before .before .before .before .consume2 .last .1 .0) (c .before .before .before .before .before .before .before .before .before .before .before .before .before .before .before .before .before .before .before .before .before .before .before .before .before .before .before .before .before .before .before .elifs .last .1 .1 .0) in
     rw (← c .before .before .before .before .before .before .before .before .before .before .before .before .before .before .before .before .before .before .before .before .before .before .before .before .before .before .before .before .before .before .before .before .before .before .before .before .before .before .before .before .before .before .before .before .before .before .before .before .before .before .before .before .before .before .before .before .before .before .before .before .assignment .ensures, c .before .before .before .before .before .before .before .before .before .before .before .before .before .before .before .before .before .before .before .before .before .before .before .before .before .before .before .before .before .before .before .before .before .before .before .before .before .before .before .before .before .before .before .before .before .before .before .before .before .before .before .before .before .before .k .given .1, ← c .before .before .before .before .before .before .before .before .before .before .before .before .before .before .before .before .before .before .before .before .before .before .before .before .before .before .before .before .before .before .before .before .before .before .before .before .before .before .before .before .before .before .before .before .before .before .before .before .before .before .consume .ensures (c .before .before .before .before .before .before .before .before .before .before .before .before .before .before .before .before .before .before .before .before .before .before .before .before .before .before .before .before .before .before .before .before .before .before .before .before .before .before .before .before .before .before .before .before .before .before .before .before .before .before .before .before .before .before .before .before .before .before .before .before .assignment .last .1 .1 .0)) (rw (c .before .before .before .before .before .before .before .before .before .before .before .before .before .before .before .before .before .before .before .before .before .before .before .before .before .before .before .before .before .before .before .before .before .before .before .before .before .before .before .before .before .before .before .before .before .before .enum-told2 .given .1, ← c .before .before .before .before .before .before .before .before .before .before .before .before .before .before .before .before .before .before .before .before .before .before .before .before .before .before .before .before .before .before .before .before .before .before .before .before .before .before .before .before .before .before .block .ensures, c .before .before .before .before .before .before .before .before .before .before .before .before .before .before .before .before .before .before .before .before .before .before .before .before .before .before .before .before .before .before .before .before .before .before .before .before .k2 .given .1) (rw (← c .before .before .before .before .before .before .before .before .before .before .before .before .before .before .before .before .before .before .before .before .before .before .before .before .before .before .before .before .before .before .before .elifs .ensures, c .before .before .before .before .before .before .before .before .before .before .before .before .before .before .before .before .before .before .before .before .before .before .before .before .before .k3 .given .1, ← c .before .before .before .before .before .before .before .before .before .before .before .before .before .before .before .before .before .before .before .before .before .before .matches .ensures) (rw (c .before .before .before .before .before .before .before .before .before .before .before .before .before .before .before .before .before .before .before .before .i .given .1, ← c .before .before .before .before .before .before .before .before .before .before .before .before .before .before .before .before .before .at-token .ensures, ← c .before .before .before .before .before .before .before .before .before .before .before .before .before .before .before .before .consume2 .ensures (c .before .before .before .before .before .before .before .before .before .before .before .before .before .before .before .before .before .before .before .before .before .before .before .before .before .before .before .before .before .before .before .elifs .last .1 .1 .0)) (rw (c .before .before .before .before .before .before .before .before .before .before .before .before .enum-told7 .given .1, h, ← c .before .before .before .before .before .before .before .before .block2 .ensures) (rw (← c .before .before .if-node .ensures (c .before .before .before .before .before .before .before .before .block2 .last .1 .0)))))))
 
 pub if-stmt-ok : {M : Type 1} (t : ℕ) → if-stmt-lts.Closed (claims t) (if-stmt-at t) if-stmt.Post M
@@ -192,6 +199,7 @@ if-stmt-ok t = if-stmt-lts.spec (claims t) (if-stmt-at t) if-stmt.Post
     (matches-requires t)
     (enum-known-i t)
     (enum-told-6 t)
+    (looked-requires t)
     (row-requires t)
     (make-requires t)
     (same-length-9 t)

@@ -1,5 +1,6 @@
 -- Made by tools/remake cycle grammar from tools/ans/grammar/try_catch.txt: `try-catch`, of the cycle.
 use Prim.Native.Nat.{ℕ}
+use Rattle.parser.specs.Tokens.{indexed}
 use Rattle.parser.specs.Programs.{run}
 use Rattle.parser.specs.Grammar.{lower, tryCatch}
 use Rattle.grammar.proofs.declaration.Reads as declaration
@@ -18,7 +19,7 @@ abbrev claims : ℕ → try-catch-lts.Claims
 claims t = (declaration-below t, declaration.Post, consume-reads.Asked, consume-reads.Learnt, require-reads.Asked, require-reads.Learnt, row-reads.Asked, row-reads.Learnt, make-reads.Asked, make-reads.Learnt)
 
 declaration-requires : (t : ℕ) → try-catch-lts.Need-declaration-requires (claims t) (try-catch-at t) try-catch.Post
-declaration-requires t c κs = omega (arith, c .before .before .before .before .before .pre)
+declaration-requires t c κs = omega (arith, c .before .before .before .before .before .before .pre)
 
 enum-known-k : (t : ℕ) → try-catch-lts.Need-enum-known-k (claims t) (try-catch-at t) try-catch.Post
 enum-known-k t c = search needs
@@ -75,7 +76,7 @@ unfolding run tryCatch
 returns-3 t c = rw (← c .before .before .before .before .before .before .before .before .before .before .before .before .before .before .before .before .before .before .before .before .before .declaration .ensures, c .before .before .before .before .before .before .before .before .before .before .before .before .before .before .before .k .given .1, ← c .before .before .before .before .before .before .before .before .before .before .before .consume .ensures (c .before .before .before .before .before .before .before .before .before .before .before .before .before .before .before .before .before .before .before .before .before .declaration .last .1 .1 .0)) (rw (c .before .before .before .before .before .before .before .enum-told2 .given .1, ← c .before .before .before .before .require .ensures (c .before .before .before .before .before .before .before .before .before .before .before .before .before .before .before .before .before .before .before .before .before .declaration .last .1 .1 .0), c .enum-told4 .given .1))
 
 declaration-requires-2 : (t : ℕ) → try-catch-lts.Need-declaration-requires-2 (claims t) (try-catch-at t) try-catch.Post
-declaration-requires-2 t c κs = omega (arith, c .before .before .before .before .before .before .before .before .before .before .before .before .before .before .before .before .before .before .before .before .before .before .before .before .before .before .before .before .before .before .before .pre)
+declaration-requires-2 t c κs = omega (arith, c .before .before .before .before .before .before .before .before .before .before .before .before .before .before .before .before .before .before .before .before .before .before .before .before .before .before .before .before .before .before .before .before .pre)
 
 enum-known-k-3 : (t : ℕ) → try-catch-lts.Need-enum-known-k-3 (claims t) (try-catch-at t) try-catch.Post
 enum-known-k-3 t c = search needs

@@ -1,5 +1,6 @@
 -- Made by tools/remake cycle grammar from tools/ans/grammar/while_stmt.txt: `while-stmt`, of the cycle.
 use Prim.Native.Nat.{ℕ}
+use Rattle.parser.specs.Tokens.{indexed}
 use Rattle.parser.specs.Programs.{run}
 use Rattle.parser.specs.Grammar.{lower, whileStmt}
 use Rattle.grammar.proofs.assignment.Reads as assignment
@@ -22,7 +23,7 @@ enter-loop-requires : (t : ℕ) → while-stmt-lts.Need-enter-loop-requires (cla
 enter-loop-requires t c κs = search needs
 
 assignment-requires : (t : ℕ) → while-stmt-lts.Need-assignment-requires (claims t) (while-stmt-at t) while-stmt.Post
-assignment-requires t c κs = omega (arith, c .before .before .before .before .before .before .pre)
+assignment-requires t c κs = omega (arith, c .before .before .before .before .before .before .before .pre)
 
 enum-known-k : (t : ℕ) → while-stmt-lts.Need-enum-known-k (claims t) (while-stmt-at t) while-stmt.Post
 enum-known-k t c = search needs
@@ -41,7 +42,7 @@ unfolding run whileStmt
 returns t c = rw (← c .before .before .before .before .before .before .before .enter-loop .ensures, ← c .before .before .before .before .before .before .assignment .ensures, c .enum-told .given .1)
 
 declaration-requires : (t : ℕ) → while-stmt-lts.Need-declaration-requires (claims t) (while-stmt-at t) while-stmt.Post
-declaration-requires t c κs = omega (arith, c .before .before .before .before .before .before .before .before .before .before .before .before .before .before .before .before .before .pre)
+declaration-requires t c κs = omega (arith, c .before .before .before .before .before .before .before .before .before .before .before .before .before .before .before .before .before .before .pre)
 
 enum-known-k-2 : (t : ℕ) → while-stmt-lts.Need-enum-known-k-2 (claims t) (while-stmt-at t) while-stmt.Post
 enum-known-k-2 t c = search needs

@@ -1,0 +1,1 @@
+// No code: room enough for every source.

@@ -1,0 +1,4 @@
+pub mod Walk
+pub mod Words
+pub mod Agrees
+pub mod Example

@@ -1,0 +1,4 @@
+pub mod Allowed
+pub mod Owed
+pub mod Readers
+pub mod Most
