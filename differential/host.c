@@ -4,27 +4,27 @@
  * The library's archive is for x86-64. As a program of its own this file can be run by an emulator
  * where the machine is another one, while the test that asks is built for that machine.
  *
- * A request is seven 32-bit words, lowest byte first:
- *   1, length, behind, 0, 0, 0, 0         sets the source; its bytes follow; no answer
- *   2, token words, error words, fill, rule, 0, 0
+ * A request is eight 32-bit words, lowest byte first:
+ *   1, length, behind, 0, 0, 0, 0, 0      sets the source; its bytes follow; no answer
+ *   2, token words, error words, fill, rule, 0, 0, 0
  *                                         lexes it
- *   3, buffer bytes, fill, start, start, 0, 0
+ *   3, buffer bytes, fill, start, start, 0, 0, 0
  *                                         decodes the string at start (low word, high word)
- *   4, token, error and node words, fill, rule, way
+ *   4, token, error, node and index words, fill, rule, way
  *                                         reads it
- *   5, token, error and node words, fill, rule, way
+ *   5, token, error, node and index words, fill, rule, way
  *                                         reads it one statement at a time, and once more
  * An answer is some words and then the tables, or the buffer, as the call left them:
  *   outcome, tokens, errors, intact       after 2; the token words and the error words follow
  *   outcome, length, length, intact       after 3 (low word, high word); the buffer's bytes follow
- *   outcome, tokens, errors, nodes, first statement, intact, steady, count
- *                                         after 4 and 5; count times four words and the token, error
- *                                         and node words follow
+ *   outcome, tokens, errors, nodes, first statement, looks, intact, steady, count
+ *                                         after 4 and 5; count times five words and the token, error,
+ *                                         node and index words follow
  * Each table lies between guards; intact is 1 if all of them are as they were, else 0. After 5 steady
  * is 1 if the read behind the final answer gave it again and changed nothing, and the parser's rule and
  * way are those that were set; behind 13, which is no final answer, if the parser is as it was set, and
- * the read answered 18 and changed nothing. The count is that of the answers 19: tokens, errors, nodes
- * and first statement of each follow. After 4 they are 1 and 0.
+ * the read answered 18 and changed nothing. The count is that of the answers 19: tokens, errors, nodes,
+ * first statement and looks of each follow. After 4 they are 1 and 0.
  *
  * No header is included: the toolchain's compiler comes without those of the C library.
  */
@@ -41,29 +41,31 @@ void exit(int status) __attribute__((noreturn));
 /* The border: a slice is a pointer and a length, an answer is a struct as C lays it out. */
 struct Scanned { u32 outcome, tokens, errors; };
 struct Decoded { u32 outcome; usize length; };
-struct Answer { u32 outcome, tokens, errors, nodes, first; };
+struct Answer { u32 outcome, tokens, errors, nodes, first, looks; };
 struct Scanned kettleplume_scan(u32 rule, const u8 *source, usize length, u32 *tokens,
                                 usize token_words, u32 *errors, usize error_words);
 struct Decoded kettleplume_decode(const u8 *source, usize length, usize start, u8 *buffer, usize room);
 struct Answer kettleplume_read(u32 rule, u32 way, const u8 *source, usize length, u32 *tokens,
                                usize token_words, u32 *errors, usize error_words, u32 *nodes,
-                               usize node_words);
-struct Parser { u32 rule, way, current, loops, tokens, errors, nodes, first, last, ended, outcome; };
+                               usize node_words, u32 *index, usize index_words);
+struct Parser {
+    u32 rule, way, current, loops, tokens, errors, nodes, first, last, ended, outcome, looks;
+};
 struct Answer kettleplume_begin(struct Parser *parser, const u8 *source, usize length, u32 *tokens,
                                 usize token_words, u32 *errors, usize error_words, u32 *nodes,
-                                usize node_words);
+                                usize node_words, u32 *index, usize index_words);
 struct Answer kettleplume_next(struct Parser *parser, const u8 *source, usize length, u32 *tokens,
                                usize token_words, u32 *errors, usize error_words, u32 *nodes,
-                               usize node_words);
+                               usize node_words, u32 *index, usize index_words);
 
-/* The words of each record and some outcomes, that there is more to read, that the rule is none and
- * that parser and tables don't go together, come from the compiler's command line, where
- * src/host/child.rs puts Rust's own numbers. */
-#if !defined TOKEN_WORDS || !defined ERROR_WORDS || !defined NODE_WORDS
-#error "TOKEN_WORDS, ERROR_WORDS and NODE_WORDS have to be given"
+/* The words of each record and of an answer 19, and some outcomes, that there is more to read, that the
+ * rule is none and that parser and tables don't go together, come from the compiler's command line,
+ * where src/host/child.rs puts Rust's own numbers. */
+#if !defined TOKEN_WORDS || !defined ERROR_WORDS || !defined NODE_WORDS || !defined INDEX_WORDS
+#error "TOKEN_WORDS, ERROR_WORDS, NODE_WORDS and INDEX_WORDS have to be given"
 #endif
-#if !defined MORE || !defined WRONG_RULE || !defined MISMATCH
-#error "MORE, WRONG_RULE and MISMATCH have to be given"
+#if !defined SO_FAR || !defined MORE || !defined WRONG_RULE || !defined MISMATCH
+#error "SO_FAR, MORE, WRONG_RULE and MISMATCH have to be given"
 #endif
 
 enum {
@@ -73,6 +75,7 @@ enum {
     TOKEN_TABLE = TOKEN_WORDS * (1 << 16) + 64,
     ERROR_TABLE = ERROR_WORDS * (1 << 17) + 64,
     NODE_TABLE = NODE_WORDS * (1 << 18) + 64,
+    INDEX_TABLE = INDEX_WORDS * (1 << 16) + 64,
     BUFFER = 1 << 17,
     PIPE = 1 << 16
 };
@@ -84,10 +87,11 @@ static usize source_length;
 static u32 tokens[TOKEN_TABLE + 2 * GUARD];
 static u32 errors[ERROR_TABLE + 2 * GUARD];
 static u32 nodes[NODE_TABLE + 2 * GUARD];
+static u32 lines[INDEX_TABLE + 2 * GUARD]; /* the newline index */
 static u8 buffer[BUFFER + 2 * GUARD];
 /* As they were before the last read, and the answers on the way. */
-static u32 kept[TOKEN_TABLE + ERROR_TABLE + NODE_TABLE];
-static u32 so_far[4 * (SOURCE + GUARD)];
+static u32 kept[TOKEN_TABLE + ERROR_TABLE + NODE_TABLE + INDEX_TABLE];
+static u32 so_far[SO_FAR * (SOURCE + GUARD)];
 
 static u8 in[PIPE], out[PIPE];
 static usize in_at, in_end, out_end;
@@ -157,11 +161,19 @@ static void lex(usize token_words, usize error_words, u32 fill, u32 rule) {
     put(errors + GUARD, error_words * sizeof(u32));
 }
 
+/* The tables of a reading, in their order: how many words each has, and where it lies between guards. */
+enum { TABLES = 4 };
+struct Sizes { usize words[TABLES]; };
+static u32 *const tables[TABLES] = {tokens, errors, nodes, lines};
+static const usize most[TABLES] = {TOKEN_TABLE, ERROR_TABLE, NODE_TABLE, INDEX_TABLE};
+
 /* The tables one after the other; whether they are as they were then. */
-static void keep(usize token_words, usize error_words, usize node_words) {
-    memcpy(kept, tokens + GUARD, token_words * sizeof(u32));
-    memcpy(kept + token_words, errors + GUARD, error_words * sizeof(u32));
-    memcpy(kept + token_words + error_words, nodes + GUARD, node_words * sizeof(u32));
+static void keep(const struct Sizes *sizes) {
+    u32 *to = kept;
+    for (int i = 0; i < TABLES; i++) {
+        memcpy(to, tables[i] + GUARD, sizes->words[i] * sizeof(u32));
+        to += sizes->words[i];
+    }
 }
 
 static u32 same_words(const u32 *a, const u32 *b, usize words) {
@@ -178,57 +190,66 @@ static u32 same_parser(const struct Parser *a, const struct Parser *b) {
     return same_words((const u32 *)a, (const u32 *)b, sizeof *a / sizeof(u32));
 }
 
-static u32 as_kept(usize token_words, usize error_words, usize node_words) {
-    return same_words(kept, tokens + GUARD, token_words) &
-           same_words(kept + token_words, errors + GUARD, error_words) &
-           same_words(kept + token_words + error_words, nodes + GUARD, node_words);
+static u32 as_kept(const struct Sizes *sizes) {
+    const u32 *from = kept;
+    for (int i = 0; i < TABLES; i++) {
+        if (!same_words(from, tables[i] + GUARD, sizes->words[i])) return 0;
+        from += sizes->words[i];
+    }
+    return 1;
+}
+
+/* A call of the pair. */
+typedef struct Answer Lent(struct Parser *, const u8 *, usize, u32 *, usize, u32 *, usize, u32 *, usize,
+                           u32 *, usize);
+
+static struct Answer call(Lent *function, struct Parser *parser, const struct Sizes *sizes) {
+    const usize *words = sizes->words;
+    return function(parser, source, source_length, tokens + GUARD, words[0], errors + GUARD, words[1],
+                    nodes + GUARD, words[2], lines + GUARD, words[3]);
 }
 
 /* Begins and reads up to the final answer, and once more; no source needs more reads than this. */
-static struct Answer one_at_a_time(u32 rule, u32 way, usize t, usize e, usize n, u32 *steady,
+static struct Answer one_at_a_time(u32 rule, u32 way, const struct Sizes *sizes, u32 *steady,
                                    u32 *count) {
     static const struct Parser none;
-    static const struct Answer mismatch = {MISMATCH, 0, 0, 0, 0};
+    static const struct Answer mismatch = {MISMATCH, 0, 0, 0, 0, 0};
     struct Parser set = none;
     set.rule = rule, set.way = way;
     struct Parser parser = set;
-    struct Answer r = kettleplume_begin(&parser, source, source_length, tokens + GUARD, t,
-                                        errors + GUARD, e, nodes + GUARD, n);
+    struct Answer r = call(kettleplume_begin, &parser, sizes);
     for (*count = 0; r.outcome == MORE && *count < source_length + 3; ++*count) {
-        u32 *at = so_far + 4 * *count;
-        at[0] = r.tokens, at[1] = r.errors, at[2] = r.nodes, at[3] = r.first;
-        r = kettleplume_next(&parser, source, source_length, tokens + GUARD, t, errors + GUARD, e,
-                             nodes + GUARD, n);
+        u32 *at = so_far + SO_FAR * *count;
+        at[0] = r.tokens, at[1] = r.errors, at[2] = r.nodes, at[3] = r.first, at[4] = r.looks;
+        r = call(kettleplume_next, &parser, sizes);
     }
-    keep(t, e, n);
+    keep(sizes);
     struct Parser before = parser;
-    struct Answer again = kettleplume_next(&parser, source, source_length, tokens + GUARD, t,
-                                           errors + GUARD, e, nodes + GUARD, n);
+    struct Answer again = call(kettleplume_next, &parser, sizes);
     u32 refused = r.outcome == WRONG_RULE;
-    *steady = as_kept(t, e, n) & (parser.rule == rule) & (parser.way == way) &
+    *steady = as_kept(sizes) & (parser.rule == rule) & (parser.way == way) &
               same_answer(&again, refused ? &mismatch : &r) &
               same_parser(&parser, refused ? &set : &before);
     return r;
 }
 
-static void read_into(u32 pair, usize token_words, usize error_words, usize node_words, u32 fill,
-                      u32 rule, u32 way) {
-    if (token_words > TOKEN_TABLE || error_words > ERROR_TABLE || node_words > NODE_TABLE) exit(2);
-    lay(tokens, token_words, fill);
-    lay(errors, error_words, fill);
-    lay(nodes, node_words, fill);
-    u32 steady = 1, count = 0;
+static void read_into(u32 pair, const struct Sizes *sizes, u32 fill, u32 rule, u32 way) {
+    const usize *words = sizes->words;
+    for (int i = 0; i < TABLES; i++) {
+        if (words[i] > most[i]) exit(2);
+        lay(tables[i], words[i], fill);
+    }
+    u32 steady = 1, count = 0, whole = 1;
     struct Answer r =
-        pair ? one_at_a_time(rule, way, token_words, error_words, node_words, &steady, &count)
-             : kettleplume_read(rule, way, source, source_length, tokens + GUARD, token_words,
-                                errors + GUARD, error_words, nodes + GUARD, node_words);
-    u32 whole = intact(tokens, token_words) & intact(errors, error_words) & intact(nodes, node_words);
-    u32 answer[8] = {r.outcome, r.tokens, r.errors, r.nodes, r.first, whole, steady, count};
+        pair ? one_at_a_time(rule, way, sizes, &steady, &count)
+             : kettleplume_read(rule, way, source, source_length, tokens + GUARD, words[0],
+                                errors + GUARD, words[1], nodes + GUARD, words[2], lines + GUARD,
+                                words[3]);
+    for (int i = 0; i < TABLES; i++) whole &= intact(tables[i], words[i]);
+    u32 answer[9] = {r.outcome, r.tokens, r.errors, r.nodes, r.first, r.looks, whole, steady, count};
     put(answer, sizeof answer);
-    put(so_far, count * 4 * sizeof(u32));
-    put(tokens + GUARD, token_words * sizeof(u32));
-    put(errors + GUARD, error_words * sizeof(u32));
-    put(nodes + GUARD, node_words * sizeof(u32));
+    put(so_far, count * SO_FAR * sizeof(u32));
+    for (int i = 0; i < TABLES; i++) put(tables[i] + GUARD, words[i] * sizeof(u32));
 }
 
 static void decode(usize room, u8 fill, usize start) {
@@ -246,14 +267,15 @@ static void decode(usize room, u8 fill, usize start) {
 
 int main(void) {
     for (;;) {
-        u32 q[7];
+        u32 q[8];
         get(q, sizeof q);
+        const struct Sizes sizes = {{q[1], q[2], q[3], q[4]}};
         switch (q[0]) {
         case 1: set_source(q[1], (u8)q[2]); break;
         case 2: lex(q[1], q[2], q[3], q[4]); break;
         case 3: decode(q[1], (u8)q[2], (usize)q[4] << 32 | q[3]); break;
-        case 4: read_into(0, q[1], q[2], q[3], q[4], q[5], q[6]); break;
-        case 5: read_into(1, q[1], q[2], q[3], q[4], q[5], q[6]); break;
+        case 4: read_into(0, &sizes, q[5], q[6], q[7]); break;
+        case 5: read_into(1, &sizes, q[5], q[6], q[7]); break;
         default: return 2;
         }
     }

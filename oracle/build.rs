@@ -1,6 +1,7 @@
 //! Makes the parser that `logged` runs: the unchanged `parser.rs` with calls put in that note when
-//! a node is finished, a level opens and a top-level statement is kept, and with the token that each
-//! error is about, where the original has 0. Errors are noted by the state, which is `logged`'s own.
+//! a node is finished, a level opens and a top-level statement is kept, and that count the looks, and
+//! with the token that each error is about, where the original has 0. Errors are noted by the state,
+//! which is `logged`'s own.
 //!
 //! And makes the lexer and the parser of rule two: the unchanged ones with three lines changed. Its
 //! parser is there with a log and without.
@@ -79,6 +80,13 @@ const LEVELS: &[Edit] = &[
 const STATEMENTS: &[Edit] = &[(
     "Some(st) => self.state.stmts.push(st),",
     "Some(st) => self.state.keep(st),",
+    1,
+)];
+
+/// A look is a call of `check`, whoever makes it: the test itself, `matches`, `matches_many`, `consume`.
+const LOOKS: &[Edit] = &[(
+    "    fn check(&mut self, token: Token) -> bool {\n",
+    "    fn check(&mut self, token: Token) -> bool {\n        self.state.look();\n",
     1,
 )];
 
@@ -212,7 +220,8 @@ fn write(name: &str, text: &str) {
 
 /// A parser with its log.
 fn logging(parser: &str) -> String {
-    let mut text = edited(parser, &[PATHS, LEVELS, STATEMENTS, PLACES, SMALL_NODES]);
+    let groups = [PATHS, LEVELS, STATEMENTS, LOOKS, PLACES, SMALL_NODES];
+    let mut text = edited(parser, &groups);
     for &(line, kind, count) in NODES {
         let new = format!("self.state.node({kind}); {line}");
         text = replaced(&text, line, &new, count);

@@ -46,7 +46,8 @@ pub struct Times {
     pub name: String,
     pub bytes: f64,
     pub tokens: f64,
-    pub original: Parts,
+    /// None where it takes too long.
+    pub original: Option<Parts>,
     pub library: Ours,
     pub same_text: Ours,
     /// A plain scan over the same bytes.
@@ -56,11 +57,12 @@ pub struct Times {
 impl Times {
     pub fn of(input: &Input) -> Times {
         let mut work = Work::new(input);
-        let mut original = Parts::of(&input.scripts);
-        let rounds = (ORIGINAL / original.whole).clamp(ROUNDS.0, ROUNDS.1) as usize;
+        let mut original = input.by_original.then(|| Parts::of(&input.scripts));
+        let rounds = original.map_or(ROUNDS.1, |parts| ORIGINAL / parts.whole);
+        let rounds = rounds.clamp(ROUNDS.0, ROUNDS.1) as usize;
         let (mut library, mut same_text, mut plain) = (Ours::NEVER, Ours::NEVER, f64::INFINITY);
         for _ in 0..rounds {
-            original = original.least(Parts::of(&input.scripts));
+            original = original.map(|parts| parts.least(Parts::of(&input.scripts)));
             for _ in 0..work.samples.div_ceil(rounds) {
                 work.sample::<Library>(&mut library);
                 work.sample::<SameText>(&mut same_text);

@@ -18,6 +18,8 @@ const LONG: usize = LONGEST - 35;
 pub struct Input {
     pub name: String,
     pub scripts: Vec<String>,
+    /// Whether the original is timed too.
+    pub by_original: bool,
 }
 
 impl Input {
@@ -25,6 +27,16 @@ impl Input {
         Input {
             name: name.to_string(),
             scripts: vec![script],
+            by_original: true,
+        }
+    }
+
+    /// The same where the original would take half an hour: each of its looks walks all newlines that
+    /// stand before it.
+    fn ours(name: &str, script: String) -> Input {
+        Input {
+            by_original: false,
+            ..Input::one(name, script)
         }
     }
 
@@ -44,8 +56,11 @@ pub fn forms() -> Vec<Input> {
         Input::one("many names", names()),
         Input::one("long strings and comments", texts(ENGLISH)),
         Input::one("the same with accents", texts(FRENCH)),
-        Input::one("blank lines between statements", blank_lines()),
+        Input::one("blank lines between statements", blank_lines(100)),
+        Input::one("the same to 64 KiB", blank_lines(963)),
         Input::one("2,000 trailing blank lines", trailing()),
+        Input::ours("65,000 behind the mixed script", mixed_and_lines()),
+        Input::ours("65,000 newlines", "\n".repeat(LINES)),
     ]
 }
 
@@ -74,6 +89,7 @@ fn surveyors() -> Input {
     Input {
         name: "surveyors' scripts".to_string(),
         scripts: texts.filter(|text| is_read(text)).collect(),
+        by_original: true,
     }
 }
 
@@ -145,13 +161,21 @@ fn texts(phrase: &str) -> String {
     unit.repeat(LONG / unit.len())
 }
 
-/// A hundred statements, with fifty blank lines behind each but the last.
-fn blank_lines() -> String {
+/// So many statements, with fifty blank lines behind each but the last.
+fn blank_lines(count: usize) -> String {
     let statement = "pipes = pipes + 1";
-    vec![statement; 100].join(&"\n".repeat(51)) + "\n"
+    vec![statement; count].join(&"\n".repeat(51)) + "\n"
 }
 
 /// A statement, and nothing behind it.
 fn trailing() -> String {
     "pipes = pipes + 1\n".to_string() + &"\n".repeat(2_000)
+}
+
+/// An even number, since each two of them are a statement and one left over is an error.
+const LINES: usize = 65_000;
+
+/// As much of the mixed script as there is room for, and nothing behind it.
+fn mixed_and_lines() -> String {
+    mixed::script(LONG - LINES) + &"\n".repeat(LINES)
 }

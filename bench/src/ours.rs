@@ -1,15 +1,16 @@
 //! The proved library, and its own text compiled by rustc: the same calls on the same tables.
 
 use kettleplume::border;
-use kettleplume::records::{outcome, rule, way, ERROR_WORDS, NODE_WORDS, TOKEN_WORDS};
+use kettleplume::records::{outcome, rule, way, ERROR_WORDS, INDEX_WORDS, NODE_WORDS, TOKEN_WORDS};
 use kettleplume::Rooms;
 
 use crate::same;
 
-/// Either of the two, by rule one and on the original's way. A reading answers with the outcome, the counts and the first statement.
+/// Either of the two, by rule one and on the original's way. A reading is lent three tables and the newline
+/// index, and answers with the outcome, the counts and the first statement.
 pub trait Reader {
     fn scan(source: &[u8], tokens: &mut [u32], errors: &mut [u32]) -> [u32; 3];
-    fn read(source: &[u8], tokens: &mut [u32], errors: &mut [u32], nodes: &mut [u32]) -> [u32; 5];
+    fn read(source: &[u8], lent: [&mut [u32]; 4]) -> [u32; 5];
 }
 
 pub struct Library;
@@ -20,8 +21,9 @@ impl Reader for Library {
         [s.outcome, s.tokens, s.errors]
     }
 
-    fn read(source: &[u8], tokens: &mut [u32], errors: &mut [u32], nodes: &mut [u32]) -> [u32; 5] {
-        let a = border::read(rule::ONE, way::GO_ON, source, tokens, errors, nodes);
+    fn read(source: &[u8], [tokens, errors, nodes, index]: [&mut [u32]; 4]) -> [u32; 5] {
+        let (rule, way) = (rule::ONE, way::GO_ON);
+        let a = border::read(rule, way, source, tokens, errors, nodes, index);
         [a.outcome, a.tokens, a.errors, a.nodes, a.first]
     }
 }
@@ -37,9 +39,9 @@ impl Reader for SameText {
     }
 
     #[inline(never)]
-    fn read(source: &[u8], tokens: &mut [u32], errors: &mut [u32], nodes: &mut [u32]) -> [u32; 5] {
-        let a =
-            same::reader::kettleplume_read(rule::ONE, way::GO_ON, source, tokens, errors, nodes);
+    fn read(source: &[u8], [tokens, errors, nodes, index]: [&mut [u32]; 4]) -> [u32; 5] {
+        let (rule, way) = (rule::ONE, way::GO_ON);
+        let a = same::reader::kettleplume_read(rule, way, source, tokens, errors, nodes, index);
         [a.outcome, a.tokens, a.errors, a.nodes, a.first]
     }
 }
@@ -50,6 +52,7 @@ pub struct Tables {
     pub tokens: Vec<u32>,
     pub errors: Vec<u32>,
     pub nodes: Vec<u32>,
+    pub index: Vec<u32>,
 }
 
 /// What stands in a table before a reading.
@@ -61,6 +64,7 @@ impl Tables {
             tokens: vec![BEFORE; TOKEN_WORDS * rooms.tokens],
             errors: vec![BEFORE; ERROR_WORDS * rooms.errors],
             nodes: vec![BEFORE; NODE_WORDS * rooms.nodes],
+            index: vec![BEFORE; INDEX_WORDS * rooms.index],
         }
     }
 
@@ -77,6 +81,7 @@ impl Tables {
             tokens: tokens as usize,
             errors: errors as usize,
             nodes: nodes as usize,
+            index: tokens as usize,
         })
     }
 
@@ -85,12 +90,13 @@ impl Tables {
     }
 
     pub fn read<R: Reader>(&mut self, script: &str) -> [u32; 5] {
-        R::read(
-            script.as_bytes(),
-            &mut self.tokens,
-            &mut self.errors,
-            &mut self.nodes,
-        )
+        let Tables {
+            tokens,
+            errors,
+            nodes,
+            index,
+        } = self;
+        R::read(script.as_bytes(), [tokens, errors, nodes, index])
     }
 }
 

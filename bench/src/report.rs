@@ -3,6 +3,7 @@
 use std::fmt::Write as _;
 
 use crate::clock::{Ours, Times};
+use crate::original::Parts;
 use crate::stack::Need;
 
 /// All tables as docs/SPEED.md has them.
@@ -51,8 +52,13 @@ fn ratio(a: f64, b: f64) -> String {
     }
 }
 
+/// What is said of a time of the original's, which may not have been taken.
+fn timed(time: Option<f64>, say: impl FnOnce(f64) -> String) -> String {
+    time.map_or("–".to_string(), say)
+}
+
 /// A part of the reading: the original's time, and how to get ours.
-fn part(forms: &[Times], original: fn(&Times) -> f64, ours: fn(&Ours) -> f64) -> String {
+fn part(forms: &[Times], original: fn(&Parts) -> f64, ours: fn(&Ours) -> f64) -> String {
     let head = [
         "ns per byte",
         "original",
@@ -63,14 +69,14 @@ fn part(forms: &[Times], original: fn(&Times) -> f64, ours: fn(&Ours) -> f64) ->
         "ours / plain scan",
     ];
     let rows = forms.iter().map(|times| {
-        let (theirs, mine) = (original(times), ours(&times.library));
-        let same = ours(&times.same_text);
+        let theirs = times.original.as_ref().map(original);
+        let (mine, same) = (ours(&times.library), ours(&times.same_text));
         vec![
             times.name.clone(),
-            each(times, theirs),
+            timed(theirs, |theirs| each(times, theirs)),
             each(times, mine),
             each(times, same),
-            ratio(theirs, mine),
+            timed(theirs, |theirs| ratio(theirs, mine)),
             ratio(same, mine),
             ratio(mine, times.plain),
         ]
@@ -79,15 +85,15 @@ fn part(forms: &[Times], original: fn(&Times) -> f64, ours: fn(&Ours) -> f64) ->
 }
 
 fn whole(forms: &[Times]) -> String {
-    part(forms, |times| times.original.whole, |ours| ours.needed)
+    part(forms, |original| original.whole, |ours| ours.needed)
 }
 
 fn lexing(forms: &[Times]) -> String {
-    part(forms, |times| times.original.lexing, |ours| ours.lexing)
+    part(forms, |original| original.lexing, |ours| ours.lexing)
 }
 
 fn parsing(forms: &[Times]) -> String {
-    part(forms, |times| times.original.parsing, Ours::parsing)
+    part(forms, |original| original.parsing, Ours::parsing)
 }
 
 fn clearing(forms: &[Times]) -> String {
@@ -104,15 +110,16 @@ fn clearing(forms: &[Times]) -> String {
     ];
     let rows = forms.iter().map(|times| {
         let (mine, same) = (times.library.enough, times.same_text.enough);
+        let original = times.original;
         vec![
             times.name.clone(),
             times.bytes.to_string(),
             times.tokens.to_string(),
             each(times, mine),
             each(times, same),
-            ratio(times.original.whole, mine),
+            timed(original.map(|o| o.whole), |theirs| ratio(theirs, mine)),
             ratio(same, mine),
-            each(times, times.original.dropping),
+            timed(original.map(|o| o.dropping), |theirs| each(times, theirs)),
             each(times, times.plain),
         ]
     });
@@ -131,16 +138,17 @@ fn growth(growing: &[Times]) -> String {
         "original / ours",
     ];
     let rows = growing.iter().map(|times| {
-        let (theirs, mine) = (times.original.whole, times.library.needed);
+        let theirs = times.original.map(|original| original.whole);
+        let mine = times.library.needed;
         vec![
             times.name.clone(),
             times.bytes.to_string(),
-            format!("{:.0}", theirs / 1e3),
+            timed(theirs, |theirs| format!("{:.0}", theirs / 1e3)),
             format!("{:.1}", mine / 1e3),
             format!("{:.1}", times.library.enough / 1e3),
-            each(times, theirs),
+            timed(theirs, |theirs| each(times, theirs)),
             each(times, mine),
-            ratio(theirs, mine),
+            timed(theirs, |theirs| ratio(theirs, mine)),
         ]
     });
     table(&head, rows)

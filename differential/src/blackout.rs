@@ -11,7 +11,9 @@ use std::fmt::{self, Write as _};
 use crate::host::{Answer, Host, ReadAnswer, ReadCall, Request};
 use expected::lexing::is_text;
 use expected::mixed_dice::Dice;
-use expected::records::{way, ERROR_WORDS, NODE_WORDS, TOKEN_WORDS};
+use expected::records::{
+    outcome, token, way, Token, ERROR_WORDS, INDEX_WORDS, NODE_WORDS, TOKEN_WORDS,
+};
 use expected::rules::{number, Rule};
 use vectors::blackout::change::{any_first, broken, changed, exchanged};
 use vectors::blackout::premise::{permitted, Clause, CLAUSES};
@@ -184,9 +186,11 @@ impl Report {
                 room(8),
             );
             let nodes = room(2 * pair[0].len() + 2);
+            let index = room(tokens + 1).max(room(tokens + 4));
             let token_words = TOKEN_WORDS * tokens + dice.below(TOKEN_WORDS);
             let error_words = ERROR_WORDS * errors + dice.below(ERROR_WORDS);
             let node_words = NODE_WORDS * nodes + dice.below(NODE_WORDS);
+            let index_words = INDEX_WORDS * index;
             for bytes in pair {
                 let behind = dice.word() as u8;
                 requests.push(Request::Source { bytes, behind });
@@ -199,6 +203,7 @@ impl Report {
                         token_words,
                         error_words,
                         node_words,
+                        index_words,
                         fill,
                     }));
                     fills.push(fill);
@@ -235,8 +240,9 @@ fn alike(readings: [&Result<Tables, String>; 2]) -> Result<u32, String> {
     }
 }
 
-/// The library's reading, into tables that were filled with one word: the kept tokens and errors,
-/// whether the words behind them are as they were, and the whole node table.
+/// The library's reading, into tables that were filled with one word: the kept tokens and errors, the
+/// index of the tokens where they were parsed, whether the words behind them are as they were, and the
+/// whole node table.
 fn tables(reading: &ReadAnswer, fill: u32) -> Result<Tables, String> {
     let kept = |table: &[u32], words: usize| {
         let (kept, behind) = table.split_at_checked(words).ok_or("more than the room")?;
@@ -253,11 +259,28 @@ fn tables(reading: &ReadAnswer, fill: u32) -> Result<Tables, String> {
             reading.errors,
             reading.nodes,
             reading.first,
+            reading.looks,
         ],
         tokens: kept(&reading.token_table, TOKEN_WORDS * reading.tokens as usize)?,
         errors: kept(&reading.error_table, ERROR_WORDS * reading.errors as usize)?,
         nodes: reading.node_table.clone(),
+        index: kept(&reading.index_table, INDEX_WORDS * indexed(reading))?,
     })
+}
+
+/// How many words of the newline index are filled: those of all tokens where parsing was begun. What ended
+/// in lexing for want of room has no EOF.
+fn indexed(reading: &ReadAnswer) -> usize {
+    const EOF: u32 = oracle::token::Token::EOF as u32;
+    let tokens: &[Token] = reading.token_table.as_chunks().0;
+    let count = reading.tokens as usize;
+    let last = tokens[..count.min(tokens.len())].last();
+    let lexed = last.is_some_and(|last| last[token::KIND] == EOF);
+    match reading.outcome {
+        outcome::BUFFER_ROOM | outcome::NOT_PARSED => 0,
+        _ if lexed => count,
+        _ => 0,
+    }
 }
 
 /// Whether the original reads the two differently.

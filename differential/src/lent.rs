@@ -3,16 +3,19 @@
 //!
 //! When a read answers 18 or 13, and that it then changes nothing, is written here from document 01 and
 //! the request for rules. Where it goes on with something that no reading left, the original can't be
-//! asked: then what it answers is held to what any read keeps to.
+//! asked: then what it answers is held to what any read keeps to, and its looks to those of the same
+//! read from 0.
 
 use std::collections::BTreeMap;
 
 use expected::records::{
-    node, outcome, rule, token, Error, Token, ERROR_WORDS, NODE_WORDS, TOKEN_WORDS, WIDTHS,
+    node, outcome, rule, token, Error, Token, ERROR_WORDS, INDEX_WORDS, LONGEST, NODE_WORDS,
+    TOKEN_WORDS, WIDTHS,
 };
 use expected::rules::named;
 use kettleplume::border::{Answer, Parser};
 
+use crate::host::Guarded;
 use crate::parse_scripts::Scripts;
 use expected::mixed_dice::Dice;
 
@@ -39,6 +42,7 @@ pub struct Lent {
     pub tokens: Vec<u32>,
     pub errors: Vec<u32>,
     pub nodes: Vec<u32>,
+    pub index: Vec<u32>,
 }
 
 impl Lent {
@@ -46,16 +50,18 @@ impl Lent {
     pub fn begun(
         parser: Parser,
         source: &[u8],
-        rooms: [usize; 3],
+        words: [usize; 4],
         fill: u32,
         reads: usize,
     ) -> Lent {
+        let [tokens, errors, nodes, index] = words.map(|words| vec![fill; words]);
         let mut lent = Lent {
             parser,
             source: source.to_vec(),
-            tokens: vec![fill; rooms[0]],
-            errors: vec![fill; rooms[1]],
-            nodes: vec![fill; rooms[2]],
+            tokens,
+            errors,
+            nodes,
+            index,
         };
         lent.begin();
         for _ in 0..reads {
@@ -65,23 +71,45 @@ impl Lent {
     }
 
     pub fn begin(&mut self) -> Answer {
-        let (tokens, errors, nodes) = (&mut self.tokens, &mut self.errors, &mut self.nodes);
-        self.parser.begin(&self.source, tokens, errors, nodes)
+        self.call(|parser, source, [tokens, errors, nodes, index]| {
+            parser.begin(source, tokens, errors, nodes, index)
+        })
     }
 
+    // Its last answer is given again and again, so it is no iterator.
+    #[allow(clippy::should_implement_trait)]
     pub fn next(&mut self) -> Answer {
-        let (tokens, errors, nodes) = (&mut self.tokens, &mut self.errors, &mut self.nodes);
-        self.parser.next(&self.source, tokens, errors, nodes)
+        self.call(|parser, source, [tokens, errors, nodes, index]| {
+            parser.next(source, tokens, errors, nodes, index)
+        })
     }
 
-    /// Whether a read can go on: the counts and the last statement fit the tables, the cursor is below
-    /// the token count, the loop count isn't over it, and the last token is the only EOF.
+    /// Makes a call with the tables between guards, which it may not touch.
+    fn call(
+        &mut self,
+        function: impl FnOnce(&mut Parser, &[u8], [&mut [u32]; 4]) -> Answer,
+    ) -> Answer {
+        let mut guarded = self.tables().map(|table| Guarded::holding(table));
+        let tables = guarded.each_mut().map(Guarded::lent);
+        let answer = function(&mut self.parser, &self.source, tables);
+        assert!(guarded.iter().all(Guarded::intact), "the guards: {self:?}");
+        [self.tokens, self.errors, self.nodes, self.index] = guarded.map(Guarded::table);
+        answer
+    }
+
+    fn tables(&self) -> [&Vec<u32>; 4] {
+        [&self.tokens, &self.errors, &self.nodes, &self.index]
+    }
+
+    /// Whether a read can go on: the counts and the last statement fit the tables, the tokens the newline
+    /// index too, the cursor is below the token count, the loop count isn't over it, and the last token is the only EOF.
     fn fits(&self) -> bool {
         let p = &self.parser;
         let tokens: &[Token] = self.tokens.as_chunks().0;
-        let [_, errors, nodes] = self.rooms();
+        let [_, errors, nodes, index] = self.rooms();
         let count = p.tokens as usize;
         count <= tokens.len()
+            && count <= index
             && p.errors as usize <= errors
             && p.nodes as usize <= nodes
             && p.last as usize <= nodes
@@ -90,15 +118,24 @@ impl Lent {
             && tokens[..count].iter().position(|t| t[token::KIND] == EOF) == Some(count - 1)
     }
 
+    /// Whether the newline index leads from a Newline past the tokens.
+    fn leads_past(&self) -> bool {
+        let tokens: &[Token] = self.tokens.as_chunks().0;
+        let words = tokens.iter().zip(&self.index);
+        words
+            .take(self.parser.tokens as usize)
+            .any(|(t, word)| t[token::KIND] == NEWLINE && *word > self.parser.tokens)
+    }
+
     /// Whether the parser's rule is one.
     fn is_ruled(&self) -> bool {
         named(self.parser.rule).is_some()
     }
 
     /// How many records each table has room for.
-    fn rooms(&self) -> [usize; 3] {
-        let words = [self.tokens.len(), self.errors.len(), self.nodes.len()];
-        [0, 1, 2].map(|table| words[table] / WIDTHS[table])
+    fn rooms(&self) -> [usize; 4] {
+        let words = self.tables().map(Vec::len);
+        [0, 1, 2, 3].map(|table| words[table] / WIDTHS[table])
     }
 
     /// The answer that the parser holds.
@@ -110,15 +147,16 @@ impl Lent {
             errors: p.errors,
             nodes: p.nodes,
             first: p.first,
+            looks: p.looks,
         }
     }
 
     /// Changes a word of the parser.
     fn damage_parser(&mut self, dice: &mut Dice) {
-        let words = [self.tokens.len(), self.errors.len(), self.nodes.len()];
+        let words = self.tables().map(Vec::len);
         let count = self.parser.tokens;
         let p = &mut self.parser;
-        let field = match dice.below(11) {
+        let field = match dice.below(12) {
             0 => &mut p.current,
             1 => &mut p.loops,
             2 => &mut p.tokens,
@@ -129,17 +167,51 @@ impl Lent {
             7 => &mut p.ended,
             8 => &mut p.way,
             9 => &mut p.rule,
+            10 => &mut p.looks,
             _ => &mut p.outcome,
         };
         *field = match dice.below(7) {
             0 => field.wrapping_add(1),
             1 => field.wrapping_sub(1),
             2 => count.wrapping_add(dice.below(3) as u32).wrapping_sub(1),
-            3 => (words[dice.below(3)] / WIDTHS[dice.below(3)]) as u32,
+            3 => (words[dice.below(4)] / WIDTHS[dice.below(4)]) as u32,
             4 => dice.below(40) as u32,
             5 => u32::MAX - dice.below(2) as u32,
             _ => dice.word() as u32,
         };
+    }
+
+    /// Changes some words of the newline index, or its length: to what leads back, to the token itself, over
+    /// others, to EOF, past it, or far away.
+    fn damage_index(&mut self, dice: &mut Dice) {
+        let count = self.parser.tokens;
+        if self.index.is_empty() || dice.one_in(8) {
+            let length = (count as usize + dice.below(3)).saturating_sub(dice.below(4));
+            self.index.resize(length.min(LONGEST), dice.word() as u32);
+            return;
+        }
+        let words = match dice.below(4) {
+            0 => 0..self.index.len(),
+            _ => {
+                let at = dice.below(self.index.len());
+                at..at + 1
+            }
+        };
+        let any = dice.word() as u32;
+        let how = dice.below(8);
+        for at in words {
+            let own = at as u32 + 1;
+            self.index[at] = match how {
+                0 => 0,
+                1 => own - 1,
+                2 => own,
+                3 => own + 1 + any % 4,
+                4 => count,
+                5 => count.wrapping_add(1),
+                6 => u32::MAX - any % 2,
+                _ => any.rotate_left(own),
+            };
+        }
     }
 
     /// Changes a word of a table, or a table's length.
@@ -180,24 +252,25 @@ pub fn damaged(count: usize, seed: u64) -> Result<Counts, String> {
     for _ in 0..count {
         let source = scripts.any();
         let length = source.len();
-        let rooms = [
+        let words = [
             TOKEN_WORDS * (length + 2),
             ERROR_WORDS * dice.below(length + 3),
             NODE_WORDS * dice.below(2 * length + 3),
+            INDEX_WORDS * (length + 2),
         ];
-        let rooms = rooms.map(|words| words + dice.below(NODE_WORDS));
+        let words = words.map(|words| words + dice.below(NODE_WORDS));
         let parser = Parser {
             rule: [rule::ONE, rule::TWO][dice.below(2)],
             way: dice.below(3) as u32,
             ..Parser::default()
         };
         let fill = dice.word() as u32;
-        let mut lent = Lent::begun(parser, &source, rooms, fill, dice.below(4));
+        let mut lent = Lent::begun(parser, &source, words, fill, dice.below(4));
         for _ in 0..=dice.below(3) {
-            if dice.one_in(2) {
-                lent.damage_parser(&mut dice);
-            } else {
-                lent.damage_tables(&mut dice);
+            match dice.below(3) {
+                0 => lent.damage_parser(&mut dice),
+                1 => lent.damage_tables(&mut dice),
+                _ => lent.damage_index(&mut dice),
             }
         }
         for _ in 0..3 {
@@ -254,7 +327,18 @@ fn wrong(before: &Lent, after: &Lent, answer: &Answer) -> Option<&'static str> {
     if (answer.outcome == outcome::MORE) == (after.parser.ended != 0) {
         return Some("the mark of the end");
     }
-    kept(before, after)
+    kept(before, after).or_else(|| carried(before, after))
+}
+
+/// A read adds its looks to those that the parser had, as far as a word counts. On nothing else have
+/// they a bearing.
+fn carried(before: &Lent, after: &Lent) -> Option<&'static str> {
+    let mut from_zero = before.clone();
+    from_zero.parser.looks = 0;
+    from_zero.next();
+    let looks = &mut from_zero.parser.looks;
+    *looks = looks.saturating_add(before.parser.looks);
+    (from_zero != *after).then_some("the looks")
 }
 
 /// What a read that goes on leaves: tokens, records before those that it adds, errors that are about
@@ -278,6 +362,8 @@ fn kept(before: &Lent, after: &Lent) -> Option<&'static str> {
     } else if after.tokens != before.tokens || after.source != before.source || p.tokens != q.tokens
     {
         Some("the tokens")
+    } else if after.index != before.index {
+        Some("the newline index")
     } else if q.errors < p.errors
         || after.errors[..errors] != before.errors[..errors]
         || after.errors[new_errors..] != before.errors[new_errors..]
@@ -294,13 +380,21 @@ fn kept(before: &Lent, after: &Lent) -> Option<&'static str> {
     }
 }
 
-/// Whether each of these errors has the line and the start of one of the tokens.
+/// Whether each of these errors has the line and the start of one of the tokens. Where the newline index
+/// leads past them it may be about what stands behind them, or about nothing.
 fn about_tokens(lent: &Lent, errors: &[u32]) -> bool {
     let tokens: &[Token] = lent.tokens.as_chunks().0;
-    let tokens = &tokens[..lent.parser.tokens as usize];
+    let mut places: Vec<_> = tokens
+        .iter()
+        .map(|t| (t[token::LINE], t[token::START]))
+        .collect();
+    if lent.leads_past() {
+        places.push((0, 0));
+    } else {
+        places.truncate(lent.parser.tokens as usize);
+    }
     let errors: &[Error] = errors.as_chunks().0;
-    errors.iter().all(|[_, line, pos]| {
-        let mut places = tokens.iter().map(|t| (t[token::LINE], t[token::START]));
-        places.any(|place| place == (*line, *pos))
-    })
+    errors
+        .iter()
+        .all(|[_, line, pos]| places.contains(&(*line, *pos)))
 }

@@ -236,7 +236,8 @@ pub fn longest_readings(
     comparison.group("deepest", deepest, reading)?;
     let sets = patterns::sets().step_by(step);
     comparison.group("Sets in Sets", sets, patterns::read_sets)?;
-    // The last ones take long here too.
-    let newlines = patterns::newlines().step_by(step);
-    comparison.group("very many newlines", newlines, patterns::read_newlines)
+    let newlines = patterns::newlines();
+    comparison.group("very many newlines", newlines, patterns::read_newlines)?;
+    let open = patterns::open_blocks();
+    comparison.group("in an open block", open, patterns::read_open_block)
 }

@@ -1,7 +1,9 @@
 //! Whole readings at their limits: rooms, levels, counts and lengths.
 
 use expected::records::{LONGEST, WIDTHS};
-use expected::scripts::{around, bytes, many, ruled, LISTED, MISLEXED, MORE_WAYS, SMALL, WAYS};
+use expected::scripts::{
+    around, bytes, many, ruled, INDEXED, LISTED, MISLEXED, MORE_WAYS, SMALL, WAYS,
+};
 use oracle::logged::LEVELS;
 
 use crate::compare::Trial;
@@ -12,14 +14,14 @@ use expected::lex_scripts::{KEYWORDS, MARKS, WRONG};
 const PAIRS: usize = 120;
 
 /// Readings with each room from none to one more than is needed, the others being enough; with
-/// error room and node room short together; and with no tables at all.
+/// error room and node room short together; with more room; and with no tables at all.
 pub fn rooms(source: &[u8]) -> Trial {
     by_rules(source, add_rooms)
 }
 
 fn add_rooms(tried: &mut Tried) {
     let enough = tried.needs().map(|room| room + 1);
-    for table in 0..3 {
+    for table in 0..enough.len() {
         for room in 0..=enough[table] {
             let mut rooms = enough;
             rooms[table] = room;
@@ -33,27 +35,37 @@ fn add_rooms(tried: &mut Tried) {
         } else {
             tried.below(pairs)
         };
-        tried.read([enough[0], pair % (enough[1] + 1), pair / (enough[1] + 1)]);
+        let (errors, nodes) = (pair % (enough[1] + 1), pair / (enough[1] + 1));
+        tried.read([enough[0], errors, nodes, enough[3]]);
     }
-    for _ in 0..4 {
-        let rooms = enough.map(|room| tried.below(room + 1));
+    for at in 0..6 {
+        let mut rooms = enough.map(|room| tried.below(room + 1));
+        if at < 4 {
+            rooms[3] = enough[3] + 2;
+        }
         tried.read(rooms);
     }
-    tried.read_with([0; 3], [0; 3]);
-    tried.read_with([0; 3], WIDTHS.map(|width| width - 1));
+    tried.read(tried.enough());
+    tried.read_with([0; 4], [0; 4]);
+    tried.read_with([0; 4], WIDTHS.map(|width| width - 1));
 }
 
-/// The same for long scripts: each room one less than is needed, exact and one more, in all
-/// combinations.
+/// The same for long scripts: each table's room one less than is needed, exact and one more, in all
+/// combinations, and the newline index with just the others.
 pub fn edges(source: &[u8]) -> Trial {
     by_rules(source, |tried| {
         let needs = tried.needs();
         for choice in 0..27 {
             let shift = [choice % 3, choice / 3 % 3, choice / 9];
-            let rooms = [0, 1, 2].map(|table| (needs[table] + shift[table]).saturating_sub(1));
-            tried.read(rooms);
+            let room = |table: usize| (needs[table] + shift[table]).saturating_sub(1);
+            tried.read([room(0), room(1), room(2), needs[3]]);
         }
-        tried.read_with([0; 3], [0; 3]);
+        let [tokens, errors, nodes, index] = needs;
+        for index in [0, index.saturating_sub(1), index + 3] {
+            tried.read([tokens, errors, nodes, index]);
+            tried.read([tokens, 0, 0, index]);
+        }
+        tried.read_with([0; 4], [0; 4]);
     })
 }
 
@@ -62,12 +74,12 @@ pub fn exact(source: &[u8]) -> Trial {
     by_rules(source, |tried| {
         let needs = tried.needs();
         tried.read(needs);
-        for table in 0..3 {
+        for table in 0..needs.len() {
             let mut rooms = needs;
             rooms[table] = rooms[table].saturating_sub(1);
             tried.read(rooms);
         }
-        tried.read_with([0; 3], [0; 3]);
+        tried.read_with([0; 4], [0; 4]);
     })
 }
 
@@ -76,7 +88,12 @@ pub fn listed() -> impl Iterator<Item = Vec<u8>> {
     let plain = LISTED.into_iter().chain([MISLEXED]).flatten();
     let plain = plain.map(|text| text.to_string());
     let small = SMALL.iter().map(|(text, ..)| text.to_string());
-    plain.chain(small).chain(ruled()).map(|text| bytes(&text))
+    let indexed = INDEXED.iter().map(|(text, ..)| text.to_string());
+    plain
+        .chain(small)
+        .chain(indexed)
+        .chain(ruled())
+        .map(|text| bytes(&text))
 }
 
 /// Parameters and arguments about their limits, in all places that have them.
@@ -258,7 +275,7 @@ pub fn refusals(source: &[u8]) -> Trial {
     by_rules(source, |tried| {
         let needs = tried.needs();
         let fewer = needs.map(|room| tried.below(room + 1));
-        for rooms in [needs, fewer, [0; 3]] {
+        for rooms in [needs, fewer, [0; 4]] {
             tried.read(rooms);
         }
     })

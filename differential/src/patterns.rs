@@ -4,10 +4,10 @@
 use std::iter::repeat_n;
 
 use expected::lexing::{Lexing, LONGEST};
-use expected::records::{kind, message, node, Node, NODE_WORDS};
+use expected::records::{kind, message, node, outcome, Node, NODE_WORDS};
 use expected::rules::Rule;
-use expected::scripts::around;
-use expected::whole::Answer;
+use expected::scripts::{around, opened, opened_looks};
+use expected::whole::{index, with_index, Answer};
 
 use crate::compare::Trial;
 use crate::whole::told;
@@ -19,6 +19,12 @@ pub fn newlines() -> impl Iterator<Item = Vec<u8>> {
 
 fn lines(count: usize) -> Vec<u8> {
     repeat_n(b'\n', count).collect()
+}
+
+/// Newlines in a block that isn't closed: no script is known that has more looks for its tokens.
+pub fn open_blocks() -> impl Iterator<Item = Vec<u8>> {
+    let counts = [999, 4_094, LONGEST - 1];
+    counts.into_iter().map(|count| opened(count).into_bytes())
 }
 
 /// A Set whose object holds a Set, and so on: the original copies the object each time, so that
@@ -35,6 +41,14 @@ pub fn read_newlines(source: &[u8]) -> Trial {
     read(source, newlines_come_to(source))
 }
 
+pub fn read_open_block(source: &[u8]) -> Trial {
+    told(source, &open_block_comes_to(source), |tried| {
+        // Two nodes are made of each newline, and not kept.
+        let [tokens, errors, ..] = tried.needs();
+        tried.read(with_index([tokens, errors, 2 * tokens]));
+    })
+}
+
 pub fn read_sets(source: &[u8]) -> Trial {
     read(source, sets_come_to(source))
 }
@@ -48,11 +62,12 @@ fn read(source: &[u8], answer: Answer) -> Trial {
     })
 }
 
-/// The original's tokens, no errors and no nodes.
+/// The original's tokens and their newline index, no errors and no nodes.
 fn lexed(source: &[u8]) -> Answer {
     let script = std::str::from_utf8(source).expect("ASCII");
     let (lexing, _) = Lexing::of(Rule::One, script);
     Answer {
+        index: index(&lexing.tokens),
         tokens: lexing.tokens,
         ..Answer::default()
     }
@@ -68,7 +83,7 @@ fn record(kind: u32, token: u32, children: [u32; 3], next: u32) -> Node {
     record
 }
 
-/// Each two newlines are an Empty statement; with one left over, its own newline is missing.
+/// Each two newlines are an Empty statement of 45 looks; with one left over, its own newline is missing.
 fn newlines_come_to(source: &[u8]) -> Answer {
     let mut answer = lexed(source);
     let statements = source.len().div_ceil(2) as u32;
@@ -78,8 +93,9 @@ fn newlines_come_to(source: &[u8]) -> Answer {
         answer.nodes.push(record(kind::EMPTY, 0, [0; 3], 0));
         let stmt = record(kind::EXPR_STMT, 0, [empty, 0, 0], next);
         answer.nodes.push(stmt);
-        answer.so_far.push([0, 2 * n]);
+        answer.so_far.push([0, 2 * n, 45 * n]);
     }
+    answer.looks = 45 * statements;
     if source.len() % 2 == 1 {
         // It is missed at EOF.
         let end = source.len() as u32;
@@ -88,6 +104,18 @@ fn newlines_come_to(source: &[u8]) -> Answer {
     answer.first = if statements == 0 { 0 } else { 2 };
     answer.statements = statements as usize;
     answer
+}
+
+/// No statement is finished: at EOF no expression begins.
+fn open_block_comes_to(source: &[u8]) -> Answer {
+    let end = source.len() as u32;
+    Answer {
+        outcome: outcome::STOPPED,
+        errors: vec![[message::EXPRESSION, end, end]],
+        looks: opened_looks(source.len() - 1),
+        so_far: vec![[0; 3]],
+        ..lexed(source)
+    }
 }
 
 /// The name; for each level the Get, the index, the Access, the value, the Set, whose object is the
@@ -112,7 +140,9 @@ fn sets_come_to(source: &[u8]) -> Answer {
     nodes.push(record(kind::EXPR_STMT, token, [node, 0, 0], 0));
     answer.first = node + 1;
     answer.statements = 1;
-    answer.so_far = vec![[0, 0]];
+    answer.so_far = vec![[0; 3]];
+    // The name and what comes round it; for each level the brackets, the name, the index and the value.
+    answer.looks = 38 + levels * (9 + 3 + 27 + 18 + 21 + 1);
     answer
 }
 
@@ -132,6 +162,9 @@ mod tests {
         for rule in Rule::BOTH {
             for source in (0..60).map(lines) {
                 assert_eq!(newlines_come_to(&source), original(rule, &source));
+            }
+            for source in (0..60).map(|count| opened(count).into_bytes()) {
+                assert_eq!(open_block_comes_to(&source), original(rule, &source));
             }
             for source in (0..9).map(nested) {
                 assert_eq!(sets_come_to(&source), original(rule, &source));

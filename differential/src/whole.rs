@@ -5,10 +5,9 @@ use std::rc::Rc;
 
 use expected::lexing::rust_string;
 use expected::records::{
-    rule, way, Error, Node, Token, ERROR_WORDS, NODE_WORDS, TOKEN_WORDS, WIDTHS,
+    rule, way, Error, Node, Token, ERROR_WORDS, INDEX_WORDS, NODE_WORDS, TOKEN_WORDS, WIDTHS,
 };
-use expected::whole::{known, Answer, Known, Whole};
-use kettleplume::Rooms;
+use expected::whole::{known, Answer, Known, Rooms, Whole};
 
 use crate::compare::{rules, table_differs, Call, Trial};
 use crate::host::{ReadAnswer, ReadCall};
@@ -63,7 +62,7 @@ enum Kept {
 fn kept_of(rule: u32, source: &[u8]) -> Kept {
     match known(rule, source) {
         Known::Read(whole) => {
-            enough(source, whole.needs());
+            fits(source, whole.needs());
             Kept::Read(Rc::new(*whole))
         }
         Known::Refused(outcome) => Kept::Refused(outcome),
@@ -121,29 +120,39 @@ impl Tried {
     }
 
     /// The rooms that the reading needs.
-    pub fn needs(&self) -> [usize; 3] {
+    pub fn needs(&self) -> Rooms {
         match &self.known {
             Kept::Read(whole) => whole.needs(),
-            Kept::Refused(_) => [2, 1, 2],
-            Kept::Told(answer) => [answer.tokens.len(), answer.errors.len(), answer.nodes.len()],
+            Kept::Refused(_) => [2, 1, 2, 2],
+            Kept::Told(answer) => [
+                answer.tokens.len(),
+                answer.errors.len(),
+                answer.nodes.len(),
+                answer.index.len(),
+            ],
         }
     }
 
+    /// The rooms that the crate lends for any source of this length.
+    pub fn enough(&self) -> Rooms {
+        enough(self.trial.source.len())
+    }
+
     /// Adds a reading into tables with these rooms and spare tails of any length.
-    pub fn read(&mut self, rooms: [usize; 3]) {
+    pub fn read(&mut self, rooms: Rooms) {
         let tails = WIDTHS.map(|width| self.dice.below(width));
         self.read_with(rooms, tails);
     }
 
     /// The same with these spare tails, in words, on both ways. Every number but 0 is the old way.
-    pub fn read_with(&mut self, rooms: [usize; 3], tails: [usize; 3]) {
+    pub fn read_with(&mut self, rooms: Rooms, tails: [usize; 4]) {
         let old = [way::GO_ON, 2, u32::MAX, self.dice.word() as u32 | 1 << 31][self.dice.below(4)];
         for way in [old, way::STOP] {
             self.read_on(way, rooms, tails);
         }
     }
 
-    fn read_on(&mut self, way: u32, rooms: [usize; 3], tails: [usize; 3]) {
+    fn read_on(&mut self, way: u32, rooms: Rooms, tails: [usize; 4]) {
         let call = ReadCall {
             rule: self.rule,
             way,
@@ -151,6 +160,7 @@ impl Tried {
             token_words: TOKEN_WORDS * rooms[0] + tails[0],
             error_words: ERROR_WORDS * rooms[1] + tails[1],
             node_words: NODE_WORDS * rooms[2] + tails[2],
+            index_words: INDEX_WORDS * rooms[3] + tails[3],
             fill: self.dice.word() as u32,
         };
         let wanted = match &self.known {
@@ -177,21 +187,35 @@ impl Tried {
     }
 }
 
-/// The crate's rooms for any source of this length are enough for this one.
-fn enough(source: &[u8], [tokens, errors, nodes]: [usize; 3]) {
-    let rooms = Rooms::enough(source.len());
+/// The crate's rooms for any source of this length.
+fn enough(length: usize) -> Rooms {
+    let rooms = kettleplume::Rooms::enough(length);
+    [rooms.tokens, rooms.errors, rooms.nodes, rooms.index]
+}
+
+/// They are enough for this one.
+fn fits(source: &[u8], needs: Rooms) {
+    let rooms = enough(source.len());
     assert!(
-        tokens <= rooms.tokens && errors <= rooms.errors && nodes <= rooms.nodes,
-        "{tokens} tokens, {errors} errors, {nodes} nodes: \"{}\"",
+        needs.iter().zip(rooms).all(|(need, room)| *need <= room),
+        "rooms {needs:?}: \"{}\"",
         source.escape_ascii()
     );
 }
 
 /// One reading by each rule with room enough: sometimes exactly enough, sometimes with records to spare.
+/// Now and then another with too short a newline index.
 pub fn reading(source: &[u8]) -> Trial {
     by_rules(source, |tried| {
-        let rooms = tried.needs().map(|room| room + tried.below(3));
+        let needs = tried.needs();
+        let rooms = needs.map(|room| room + tried.below(4));
         tried.read(rooms);
+        if tried.below(8) == 0 {
+            let [tokens, errors, nodes, index] = rooms;
+            let shorter = needs[3].saturating_sub(1);
+            let index = [shorter, tried.below(index.max(1))][tried.below(2)];
+            tried.read([tokens, errors, nodes, index]);
+        }
     })
 }
 
@@ -229,6 +253,7 @@ fn exact_differs(
         ),
         ("the number of nodes", answer.nodes, count(&expected.nodes)),
         ("the first statement", answer.first, expected.first),
+        ("the number of looks", answer.looks, expected.looks),
     ];
     if let Some((name, ..)) = counts.iter().find(|(_, got, want)| got != want) {
         return Some(name.to_string());
@@ -248,6 +273,7 @@ fn exact_differs(
             (expected.tokens.as_flattened(), call.fill),
             (expected.errors.as_flattened(), call.fill),
             (expected.nodes.as_flattened(), 0),
+            (&expected.index, call.fill),
         ],
     )
 }
@@ -255,9 +281,9 @@ fn exact_differs(
 /// What is answered before the final answer of a reading one statement at a time.
 fn before_differs(call: &ReadCall, expected: &Answer, answer: &ReadAnswer) -> Option<String> {
     let first = expected.first;
-    let so_far = expected.so_far.iter().map(|&[errors, nodes]| {
+    let so_far = expected.so_far.iter().map(|&[errors, nodes, looks]| {
         let first = if nodes == 0 { 0 } else { first };
-        [count(&expected.tokens), errors, nodes, first]
+        [count(&expected.tokens), errors, nodes, first, looks]
     });
     let differs = call.pair && !so_far.eq(answer.so_far.iter().copied());
     differs.then(|| "the answers before the last".to_string())
@@ -265,11 +291,12 @@ fn before_differs(call: &ReadCall, expected: &Answer, answer: &ReadAnswer) -> Op
 
 /// Each table begins with these words and holds one word behind them; the guards are intact, and a
 /// read behind the final answer changed nothing.
-fn words_differ(answer: &ReadAnswer, wanted: [(&[u32], u32); 3]) -> Option<String> {
+fn words_differ(answer: &ReadAnswer, wanted: [(&[u32], u32); 4]) -> Option<String> {
     let tables = [
         ("token", &answer.token_table, TOKEN_WORDS),
         ("error", &answer.error_table, ERROR_WORDS),
         ("node", &answer.node_table, NODE_WORDS),
+        ("index", &answer.index_table, INDEX_WORDS),
     ];
     for ((name, table, width), (words, behind)) in tables.into_iter().zip(wanted) {
         if let Some(at) = table_differs(table, words, behind) {
@@ -289,14 +316,15 @@ fn refused_differs(call: &ReadCall, outcome: u32, answer: &ReadAnswer) -> Option
         errors,
         nodes,
         first,
+        looks,
         ..
     } = answer;
     if answer.outcome != outcome {
         Some(format!("the outcome, which must be {outcome}"))
-    } else if [tokens, errors, nodes, first] != [&0; 4] {
+    } else if [tokens, errors, nodes, first, looks] != [&0; 5] {
         Some("the counts, which must be 0".to_string())
     } else {
-        words_differ(answer, [(&[], call.fill); 3])
+        words_differ(answer, [(&[], call.fill); 4])
     }
 }
 
@@ -304,7 +332,8 @@ fn count<T>(records: &[T]) -> u32 {
     records.len() as u32
 }
 
-/// The records that the library says it has kept, as far as they are in the tables.
+/// The records that the library says it has kept, as far as they are in the tables, and as many words of
+/// the index as it has kept tokens.
 fn kept(answer: &ReadAnswer) -> Answer {
     let tokens: &[Token] = answer.token_table.as_chunks().0;
     let errors: &[Error] = answer.error_table.as_chunks().0;
@@ -322,7 +351,14 @@ fn kept(answer: &ReadAnswer) -> Answer {
             .take(answer.errors as usize)
             .collect(),
         nodes: nodes.iter().copied().take(answer.nodes as usize).collect(),
+        index: answer
+            .index_table
+            .iter()
+            .copied()
+            .take(answer.tokens as usize)
+            .collect(),
         first: answer.first,
+        looks: answer.looks,
         ..Answer::default()
     }
 }
@@ -334,18 +370,21 @@ fn show(text: &mut String, side: &str, answer: &Answer) {
         tokens,
         errors,
         nodes,
+        index,
         first,
+        looks,
         ..
     } = answer;
     let (t, e, n) = (tokens.len(), errors.len(), nodes.len());
     let _ = writeln!(
         text,
-        "{side}: outcome {outcome}, {t} tokens, {e} errors, {n} nodes, first statement {first}"
+        "{side}: outcome {outcome}, {t} tokens, {e} errors, {n} nodes, first statement {first}, {looks} looks"
     );
     for [message, line, pos] in errors {
         let _ = writeln!(text, "  error: message {message}, line {line}, pos {pos}");
     }
-    for (index, node) in nodes.iter().enumerate() {
-        let _ = writeln!(text, "  node {}: {node:?}", index + 1);
+    for (at, node) in nodes.iter().enumerate() {
+        let _ = writeln!(text, "  node {}: {node:?}", at + 1);
     }
+    let _ = writeln!(text, "  newline index: {index:?}");
 }

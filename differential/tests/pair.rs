@@ -3,7 +3,8 @@
 
 use differential::lent::{damaged, Lent, KINDS, READ};
 use expected::records::outcome::{DONE, MISMATCH, MORE, STOPPED, WRONG_RULE};
-use expected::records::{message, ERROR_WORDS, TOKEN_WORDS, WIDTHS};
+use expected::records::{kind, message, ERROR_WORDS, TOKEN_WORDS, WIDTHS};
+use expected::whole::with_index;
 use kettleplume::border::{Answer, Parser};
 use kettleplume::Options;
 
@@ -18,9 +19,10 @@ fn any_parser_and_any_tables_get_an_answer() {
     }
 }
 
-/// What begin leaves of a source in tables with these rooms.
+/// What begin leaves of a source in tables with these rooms, and an index with the tokens' room.
 fn begun(source: &[u8], rooms: [usize; 3]) -> Lent {
-    let words = [0, 1, 2].map(|table| WIDTHS[table] * rooms[table]);
+    let rooms = with_index(rooms);
+    let words = [0, 1, 2, 3].map(|table| WIDTHS[table] * rooms[table]);
     Lent::begun(Parser::new(Options::ORIGINAL), source, words, 7, 0)
 }
 
@@ -42,7 +44,7 @@ fn zeros_are_refused() {
 #[test]
 fn each_condition_is_asked() {
     type Change = fn(&mut Lent);
-    let refused: [Change; 9] = [
+    let refused: [Change; 10] = [
         |l| l.parser.tokens += 1,
         |l| l.parser.errors = 2,
         |l| l.parser.nodes = 5,
@@ -52,8 +54,9 @@ fn each_condition_is_asked() {
         |l| l.tokens[TOKEN_WORDS * 4] = 1,
         |l| l.tokens[TOKEN_WORDS * 2] = 0,
         |l| l.tokens.truncate(TOKEN_WORDS * 5 - 1),
+        |l| l.index.truncate(4),
     ];
-    let read: [Change; 7] = [
+    let read: [Change; 11] = [
         |l| l.parser.errors = 1,
         |l| l.parser.last = 4,
         |l| l.parser.loops = 5,
@@ -61,6 +64,10 @@ fn each_condition_is_asked() {
         |l| l.parser.outcome = 77,
         |l| l.parser.way = 0,
         |l| l.parser.rule = 2,
+        |l| l.parser.looks = u32::MAX,
+        |l| l.index.push(7),
+        |l| l.index.fill(0),
+        |l| l.index.fill(u32::MAX),
     ];
     let ruleless: [Change; 3] = [
         |l| l.parser.rule = 0,
@@ -81,6 +88,71 @@ fn each_condition_is_asked() {
             assert_eq!(answer.outcome, outcome, "change {index}");
             assert_eq!(lent == before, outcome != DONE, "change {index}");
         }
+    }
+}
+
+/// A read adds its looks to the parser's. A count that a word can't hold stays at the greatest; what is
+/// refused has none, and begin starts anew.
+#[test]
+fn looks_are_carried_on() {
+    const MOST: u32 = u32::MAX;
+    for (before, after) in [
+        (0, 59),
+        (1, 60),
+        (77, 136),
+        (MOST - 60, MOST - 1),
+        (MOST - 59, MOST),
+        (MOST - 58, MOST),
+        (MOST, MOST),
+    ] {
+        let mut lent = begun(b"a = 1\n", [5, 1, 4]);
+        assert_eq!(lent.parser.looks, 0);
+        lent.parser.looks = before;
+        let mut refused = lent.clone();
+        refused.parser.current = 5;
+        assert_eq!(refused.next().looks, 0);
+        assert_eq!(refused.parser.looks, before);
+
+        let answer = lent.next();
+        assert_eq!((answer.outcome, answer.looks), (DONE, after));
+        assert_eq!(lent.next(), answer);
+        assert_eq!(lent.parser.looks, after);
+        assert_eq!(lent.begin().looks, 0);
+    }
+}
+
+/// From a Newline a read goes on where the word leads that it is lent, if that is not back; and any word
+/// ends the read, which leaves the index as it is.
+#[test]
+fn any_word_is_followed_forwards() {
+    // The tokens are a bracket, a Newline, two names, a bracket, a Newline and EOF. Where no expression
+    // begins at the place that the word leads to, the Newline is one itself.
+    let (source, right) = (b"(\na b)\n", [1, 3, 3, 4, 5, 7, 7]);
+    let (name, empty) = (|token| [kind::VAR, token], [kind::EMPTY, 0]);
+    for (word, first, outcome, messages) in [
+        (3, name(3), MORE, &[12, message::NEW_LINE][..]),
+        (4, name(4), DONE, &[]),
+        (0, empty, MORE, &[12, message::NEW_LINE]),
+        (1, empty, MORE, &[12, message::NEW_LINE]),
+        (2, empty, MORE, &[12, message::NEW_LINE]),
+        (5, empty, MORE, &[12, message::NEW_LINE]),
+        (7, empty, MORE, &[12, message::NEW_LINE]),
+        (8, empty, MORE, &[12, message::NEW_LINE]),
+        (u32::MAX, empty, MORE, &[12, message::NEW_LINE]),
+    ] {
+        let mut lent = begun(source, [7, 9, 9]);
+        assert_eq!(lent.index, right);
+        lent.index[1] = word;
+        let index = lent.index.clone();
+        let answer = lent.next();
+        let all: Vec<u32> = lent.errors.chunks(ERROR_WORDS).map(|e| e[0]).collect();
+        assert_eq!(all[..answer.errors as usize], *messages, "{word}");
+        assert_eq!(
+            (answer.outcome, &lent.nodes[..2]),
+            (outcome, &first[..]),
+            "{word}"
+        );
+        assert_eq!(lent.index, index);
     }
 }
 

@@ -3,17 +3,17 @@
 //! A tree has copies of tokens, without their places. So each token is marked with its place
 //! before it is parsed: in its lexeme, which the parser only copies, and in its literal. True,
 //! False and Nil, for which the parser makes literals of its own, are marked as texts, which it
-//! treats alike.
+//! treats alike, but for the number of tests by which it finds them.
 
 use oracle::token::{Literal, Token, TokenData};
 
 /// The token with its place as its mark.
 fn marked(index: usize, t: &TokenData) -> TokenData {
     let mark = format!("#{index}");
+    let text = || Some(Literal::String(mark.clone()));
     let (token, literal) = match t.token {
-        Token::True | Token::False | Token::Nil | Token::Number | Token::String => {
-            (Token::String, Some(Literal::String(mark.clone())))
-        }
+        Token::True | Token::False | Token::Nil => (Token::String, text()),
+        Token::Number | Token::String => (t.token, text()),
         kind => (kind, None),
     };
     TokenData {

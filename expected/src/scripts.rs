@@ -200,7 +200,8 @@ pub const LEFT_OF_EQUAL: &[&str] = &[
     "\n[1] = 2",
 ];
 
-/// Tables that are too small, too many levels, and what is no text.
+/// Tables that are too small, too many levels, and what is no text. Here and below, where no room of a
+/// newline index is named, it is that of the tokens.
 pub const SMALL: &[(&str, u32, [usize; 3], [usize; 3])] = &[
     ("a b", 5, [2, 0, 0], [2, 0, 0]),
     ("a", 5, [2, 0, 0], [2, 0, 0]),
@@ -232,6 +233,43 @@ pub const SMALL: &[(&str, u32, [usize; 3], [usize; 3])] = &[
 /// The lists so far: scripts that are read with room enough.
 pub const LISTED: [&[&str]; 6] = [STARS, UNSTARRED, WORKED, MESSAGES, NEWLINES, LEFT_OF_EQUAL];
 
+/// A block that isn't closed, with so many newlines in it: no script is known that has more looks for its
+/// tokens.
+pub fn opened(newlines: usize) -> String {
+    "{".to_string() + &"\n".repeat(newlines)
+}
+
+/// How many looks that has: each newline is a statement of 45. Where there is none, one is added.
+pub fn opened_looks(newlines: usize) -> u32 {
+    38 + 45 * newlines.max(1) as u32
+}
+
+/// How many looks a reading by rule one makes on the old way, with room enough.
+pub const LOOKS: &[(&str, u32)] = &[
+    ("", 0),
+    ("\n", 45),
+    ("\n\n", 45),
+    ("a\n", 38),
+    ("a = 1\n", 59),
+    ("a\n\n\n\nb\n", 76),
+    ("a1", 71),
+    (")", 26),        // stops
+    ("{return}", 35), // stops
+    ("1=2", 53),      // stops
+    ("{", 83),        // stops
+    ("2^3^2", 47),
+    ("-2^2", 42),
+    ("a+b*c\n", 69),
+    ("a.b\n", 41),
+    ("a[1:2:3]\n", 111),
+    ("if a {}\n", 37),
+    ("if a {} else {}\n", 40),
+    ("for x in y {}\n", 48),
+    ("class A { f() {} }\n", 15),
+    ("break", 9),
+    ("x={1:2}\n", 113),
+];
+
 /// Scripts whose lexing records errors, and some whose lexing doesn't, or ends before its end: what the
 /// two ways of a reading make of them.
 pub const MISLEXED: &[&str] = &[
@@ -258,6 +296,33 @@ pub const MISLEXED_SMALL: &[(&str, [u32; 2], [usize; 3], [[usize; 3]; 2])] = &[
     ("a $ b", [11, 6], [4, 1, 9], [[4, 1, 0]; 2]),
     ("a $ b", [11, 7], [4, 2, 0], [[4, 1, 0]; 2]),
     ("a\n$ b", [11, 7], [5, 1, 2], [[5, 1, 0], [5, 1, 1]]),
+];
+
+/// Newline indices that are too short, or just not: the script, how it ends on the new way and on the old
+/// one, the rooms for tokens, errors, nodes and index words, and how many of the tokens, errors and
+/// statements are kept on each.
+#[allow(clippy::type_complexity)]
+pub const INDEXED: &[(&str, [u32; 2], [usize; 4], [[usize; 3]; 2])] = &[
+    ("a\n", [10, 10], [3, 0, 2, 2], [[3, 0, 0]; 2]),
+    ("a\n", [0, 0], [3, 0, 2, 3], [[3, 0, 1]; 2]),
+    ("a\n\nb", [10, 10], [6, 0, 4, 5], [[6, 0, 0]; 2]),
+    ("a\n\nb", [0, 0], [6, 0, 4, 9], [[6, 0, 2]; 2]),
+    ("", [10, 10], [1, 0, 0, 0], [[1, 0, 0]; 2]),
+    ("", [0, 0], [1, 0, 0, 1], [[1, 0, 0]; 2]),
+    // Errors of lexing come before the index.
+    ("a @\n", [11, 10], [3, 1, 2, 0], [[3, 1, 0]; 2]),
+    ("a @\n", [11, 10], [3, 1, 2, 2], [[3, 1, 0]; 2]),
+    ("a @\n", [11, 0], [3, 1, 2, 3], [[3, 1, 0], [3, 1, 1]]),
+    // So does what ends lexing.
+    ("a @\n", [6, 6], [3, 0, 2, 0], [[1, 0, 0]; 2]),
+    ("a\n", [5, 5], [2, 0, 2, 1], [[2, 0, 0]; 2]),
+    ("a\n1.5", [2, 2], [2, 0, 2, 0], [[2, 0, 0]; 2]),
+    // Parsing comes behind it.
+    (")", [10, 10], [3, 0, 0, 2], [[3, 0, 0]; 2]),
+    (")", [6, 6], [3, 0, 0, 3], [[3, 0, 0]; 2]),
+    (")", [1, 1], [3, 1, 0, 3], [[3, 1, 0]; 2]),
+    ("\n\na", [10, 10], [5, 0, 0, 4], [[5, 0, 0]; 2]),
+    ("\n\na", [7, 7], [5, 0, 0, 5], [[5, 0, 0]; 2]),
 ];
 
 /// Scripts in which the rules differ, or might: names, numbers at the end, and what stands in and behind

@@ -1,10 +1,11 @@
 //! What a whole reading comes to, for tables of any size.
 //!
 //! The records come from the unchanged original. In which order nodes, errors and levels come it
-//! doesn't tell, nor which token an error of the parser is about: that is the log of its copy with
-//! calls put in (`oracle::logged`), which has to agree with it in everything else.
+//! doesn't tell, nor which token an error of the parser is about, nor how many looks there were: that is
+//! the log of its copy with calls put in (`oracle::logged`), which has to agree with it in everything
+//! else.
 
-use oracle::logged::{self, Event, Log};
+use oracle::logged::{self, Event, Log, Noted};
 use oracle::state::InterpreterError;
 use oracle::stmt::Stmt;
 use oracle::token::TokenData;
@@ -30,7 +31,9 @@ pub struct Parsing {
     tokens: Vec<TokenData>,
     /// The errors of lexing and parsing.
     errors: Vec<Error>,
-    events: Vec<Event>,
+    events: Vec<Noted>,
+    /// How many looks there were in all.
+    looks: u32,
     stopped: bool,
     /// The nodes of all finished statements, and each statement's number.
     nodes: Vec<Node>,
@@ -40,6 +43,29 @@ pub struct Parsing {
     marked: Vec<Stmt>,
 }
 
+/// How many records there is room for: tokens, errors, nodes, and words of the newline index.
+pub type Rooms = [usize; 4];
+
+/// The rooms of three tables, and an index of as many words as there is room for tokens: no reading ends
+/// for want of it.
+pub fn with_index([tokens, errors, nodes]: [usize; 3]) -> Rooms {
+    [tokens, errors, nodes, tokens]
+}
+
+/// The newline index of all tokens up to EOF: for each the reference of the first one from there on that
+/// is no Newline.
+pub fn index(tokens: &[Token]) -> Vec<u32> {
+    const NEWLINE: u32 = oracle::token::Token::Newline as u32;
+    let mut words = vec![];
+    for (at, record) in tokens.iter().enumerate() {
+        if record[token::KIND] != NEWLINE {
+            // It is the first behind all those that have no word yet.
+            words.resize(at + 1, at as u32 + 1);
+        }
+    }
+    words
+}
+
 /// The answer to a reading, and what is kept.
 #[derive(Debug, Clone, PartialEq, Eq, Default)]
 pub struct Answer {
@@ -47,12 +73,16 @@ pub struct Answer {
     pub tokens: Vec<Token>,
     pub errors: Vec<Error>,
     pub nodes: Vec<Node>,
+    /// The words that are written into the newline index: none, or one for each token.
+    pub index: Vec<u32>,
     pub first: u32,
+    /// How often `check` was called, up to the event that decided.
+    pub looks: u32,
     /// How many top-level statements are kept.
     pub statements: usize,
-    /// How many errors and nodes there are whenever a token before EOF is left to be read: before
-    /// the first statement, and behind others.
-    pub so_far: Vec<[u32; 2]>,
+    /// How many errors, nodes and looks there are whenever a token before EOF is left to be read:
+    /// before the first statement, and behind others.
+    pub so_far: Vec<[u32; 3]>,
 }
 
 /// What is known about a source.
@@ -95,7 +125,7 @@ impl Whole {
 
     /// The answer on a way. Where lexing alone comes to its end within the rooms and records an error,
     /// the new way keeps what it recorded, and no more; else it is the old way.
-    pub fn on(&self, number: u32, rooms: [usize; 3]) -> Answer {
+    pub fn on(&self, number: u32, rooms: Rooms) -> Answer {
         let lexing = self.lexing.within(rooms[0], rooms[1]);
         if number != way::STOP || lexing.outcome != outcome::DONE || lexing.errors.is_empty() {
             return self.within(rooms);
@@ -108,9 +138,10 @@ impl Whole {
         }
     }
 
-    /// The answer on the old way, the original's, where there is room for so many tokens, errors and
-    /// nodes: the first event that finds no room decides.
-    pub fn within(&self, [token_room, error_room, node_room]: [usize; 3]) -> Answer {
+    /// The answer on the old way, the original's, where there is room for so many tokens, errors, nodes
+    /// and index words: the first event that finds no room decides. The index comes between lexing and
+    /// parsing.
+    pub fn within(&self, [token_room, error_room, node_room, index_room]: Rooms) -> Answer {
         let lexing = self.lexing.within(token_room, error_room);
         let kept = Answer {
             outcome: lexing.outcome,
@@ -119,6 +150,10 @@ impl Whole {
             ..Answer::default()
         };
         match &self.parsing {
+            Some(_) if kept.outcome == outcome::DONE && index_room < kept.tokens.len() => Answer {
+                outcome: outcome::BUFFER_ROOM,
+                ..kept
+            },
             Some(parsing) if kept.outcome == outcome::DONE => {
                 parsing.within(kept, error_room, node_room)
             }
@@ -126,13 +161,14 @@ impl Whole {
         }
     }
 
-    /// The rooms that the reading needs: so many tokens, errors, and nodes made. A level too many
-    /// or a stop ends it in a statement whose nodes are made but not kept.
-    pub fn needs(&self) -> [usize; 3] {
+    /// The rooms that the reading needs: so many tokens, errors, nodes made, and index words. A level
+    /// too many or a stop ends it in a statement whose nodes are made but not kept; what is not parsed
+    /// needs no index.
+    pub fn needs(&self) -> Rooms {
         let tokens = self.lexing.tokens.len();
         match &self.parsing {
-            Some(parsing) => [tokens, self.errors().len(), parsing.made()],
-            None => [tokens, self.errors().len(), 0],
+            Some(parsing) => [tokens, self.errors().len(), parsing.made(), tokens],
+            None => [tokens, self.errors().len(), 0, 0],
         }
     }
 
@@ -180,10 +216,11 @@ impl Parsing {
         let read = oracle::parse_by(rule, script, lexed.clone());
         let Log {
             events,
+            looks,
             errors,
             stmts: marked,
             stopped,
-        } = logged::parse(rule, marks::all(&lexed.tokens));
+        } = log(rule, &lexed.tokens);
         let mut all: Vec<Error> = lexed.errors.iter().map(lexing::error).collect();
         all.extend(errors.iter().map(|e| placed(e, tokens)));
 
@@ -194,6 +231,7 @@ impl Parsing {
             tokens: lexed.tokens,
             errors: all,
             events,
+            looks,
             stopped,
             numbers,
             stmts: vec![],
@@ -207,9 +245,9 @@ impl Parsing {
     /// The nodes that the trees have are those of the log, in its order.
     fn agrees_with_its_log(&self, script: &str) {
         let (mut made, mut ends) = (vec![], vec![]);
-        for event in &self.events {
-            match event {
-                Event::Node(kind) => made.push(*kind),
+        for noted in &self.events {
+            match noted.event {
+                Event::Node(kind) => made.push(kind),
                 Event::Statement => ends.push(made.len() as u32),
                 Event::Error | Event::Level => (),
             }
@@ -243,25 +281,27 @@ impl Parsing {
     }
 
     fn too_deep(&self) -> bool {
-        self.events.last() == Some(&Event::Level)
+        let last = self.events.last();
+        last.is_some_and(|noted| noted.event == Event::Level)
     }
 
     /// How many nodes are made.
     fn made(&self) -> usize {
-        let nodes = self.events.iter().filter(|e| matches!(e, Event::Node(_)));
-        nodes.count()
+        let events = self.events.iter().map(|noted| noted.event);
+        events.filter(|e| matches!(e, Event::Node(_))).count()
     }
 
     fn within(&self, lexed: Answer, error_room: usize, node_room: usize) -> Answer {
         let (mut errors, mut nodes) = (lexed.errors.len(), 0);
         let (mut statements, mut kept) = (0, 0);
-        let mut so_far = vec![[errors as u32, 0]];
+        let mut looks = self.looks;
+        let mut so_far = vec![[errors as u32, 0, 0]];
         let mut ended = match self.stopped {
             true => outcome::STOPPED,
             false => outcome::DONE,
         };
-        for event in &self.events {
-            match event {
+        for noted in &self.events {
+            match noted.event {
                 Event::Error if errors == error_room => ended = outcome::ERROR_ROOM,
                 Event::Node(_) if nodes == node_room => ended = outcome::NODE_ROOM,
                 Event::Level => ended = outcome::TOO_DEEP,
@@ -269,10 +309,11 @@ impl Parsing {
                 Event::Node(_) => nodes += 1,
                 Event::Statement => {
                     (statements, kept) = (statements + 1, nodes);
-                    so_far.push([errors as u32, nodes as u32]);
+                    so_far.push([errors as u32, nodes as u32, noted.looks]);
                 }
             }
             if ended > outcome::STOPPED {
+                looks = noted.looks;
                 break;
             }
         }
@@ -287,14 +328,34 @@ impl Parsing {
         }
         Answer {
             outcome: ended,
+            index: index(&lexed.tokens),
             tokens: lexed.tokens,
             errors: self.errors[..errors].to_vec(),
             nodes,
             first: if statements == 0 { 0 } else { self.numbers[0] },
+            looks,
             statements,
             so_far,
         }
     }
+}
+
+/// The log of a parsing in which tokens are marked, with the looks that there are without marks. The
+/// parser goes by kinds alone, and a mark that changes one makes another test find the token.
+fn log(rule: Rule, tokens: &[TokenData]) -> Log {
+    let marked = marks::all(tokens);
+    let same_kinds = marked.iter().zip(tokens).all(|(m, t)| m.token == t.token);
+    let mut log = logged::parse(rule, marked);
+    if !same_kinds {
+        let plain = logged::parse(rule, tokens.to_vec());
+        assert!(events(&plain).eq(events(&log)), "events of {tokens:?}");
+        (log.events, log.looks) = (plain.events, plain.looks);
+    }
+    log
+}
+
+fn events(log: &Log) -> impl Iterator<Item = Event> + '_ {
+    log.events.iter().map(|noted| noted.event)
 }
 
 /// A logged error of the parser as a record: its place is where the token starts that it is about, and

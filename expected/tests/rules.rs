@@ -8,7 +8,7 @@ use expected::mixed_dice;
 use expected::records::{outcome, rule, token, Error};
 use expected::rules::{named, number, Rule, WRONG};
 use expected::scripts::{ruled, RULED_SMALL};
-use expected::whole::{known, Answer, Known, Whole};
+use expected::whole::{known, with_index, Answer, Known, Whole};
 use oracle::on_large_stack;
 
 /// The answer to a reading with room enough, on the old way.
@@ -80,7 +80,7 @@ fn the_scripts_of_the_request() {
 #[test]
 fn small_tables() {
     for &(script, outcome, rooms, kept) in RULED_SMALL {
-        let answer = Whole::of(Rule::Two, script).within(rooms);
+        let answer = Whole::of(Rule::Two, script).within(with_index(rooms));
         let [tokens, errors, statements] = kept;
         assert_eq!(answer.outcome, outcome, "{script:?}");
         let counts = [answer.tokens.len(), answer.errors.len(), answer.statements];

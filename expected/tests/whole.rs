@@ -69,7 +69,7 @@ fn the_first_event_decides() {
     // Message 12 comes before the node of the bracket, message 4 after that of the statement.
     let whole = Whole::of(Rule::One, "(a b");
     let outcome = |errors, nodes| {
-        let answer = whole.within([5, errors, nodes]);
+        let answer = whole.within([5, errors, nodes, 5]);
         (answer.outcome, answer.errors.len(), answer.statements)
     };
     assert_eq!(outcome(0, 0), (7, 0, 0));

@@ -10,7 +10,7 @@ use crate::options::Options;
 #[repr(C)]
 #[derive(Debug, Clone, Copy, PartialEq, Eq, Default)]
 pub struct Answer {
-    /// Document 01's number: 0 to 8, 11 and 13, for a read of one statement also 18 and 19.
+    /// Document 01's number: 0 to 8, 10, 11 and 13, for a read of one statement also 18 and 19.
     pub outcome: u32,
     /// How many token records are kept.
     pub tokens: u32,
@@ -20,6 +20,9 @@ pub struct Answer {
     pub nodes: u32,
     /// The number of the first statement's node, 0 where no statement is kept.
     pub first: u32,
+    /// The looks: how often `check` was called, the original's test for a token, up to where the reading
+    /// ended. Those in a statement that isn't kept count too; 0 where nothing was parsed.
+    pub looks: u32,
 }
 
 /// What lexing answers.
@@ -73,10 +76,18 @@ pub struct Parser {
     pub ended: u32,
     /// The outcome of the last answer.
     pub outcome: u32,
+    /// How often `check` was called so far. A count that a word can't hold stays at the greatest.
+    pub looks: u32,
 }
 
-/// Reads a source into three tables: what it makes of it, and every word of the tables afterwards, is
-/// fixed by the definition `reading` for any rule, any way, any bytes and tables of any size.
+/// Reads a source into three tables and the newline index: what it makes of it, and every word of them
+/// afterwards, is fixed by the definition `reading` for any rule, any way, any bytes and tables of any
+/// size.
+///
+/// The index has a word for each token, the reference of the first token from there on that is no Newline.
+/// It is written once, between lexing and parsing, so that parsing doesn't walk the same blank lines at
+/// each look. Where it has fewer words than there are tokens the answer is 10, and nothing is parsed; what
+/// ends before parsing leaves it as it was, and any other answer the words of all tokens.
 ///
 /// [`rule`](crate::records::rule) has the rules' numbers; any other is refused with 13, before all else,
 /// and nothing is changed. [`way`](crate::records::way) has the ways'; any number but 0 is the old way.
@@ -88,8 +99,9 @@ pub fn read(
     tokens: &mut [u32],
     errors: &mut [u32],
     nodes: &mut [u32],
+    index: &mut [u32],
 ) -> Answer {
-    // Each pointer and its length are one slice's, and the three tables are lent alone.
+    // Each pointer and its length are one slice's, and the three tables and the index are lent alone.
     unsafe {
         c::kettleplume_read(
             rule,
@@ -102,6 +114,8 @@ pub fn read(
             errors.len(),
             nodes.as_mut_ptr(),
             nodes.len(),
+            index.as_mut_ptr(),
+            index.len(),
         )
     }
 }
@@ -148,21 +162,26 @@ impl Parser {
     }
 
     /// Lexes a source, whatever the parser was but for its rule and its way, and makes ready to read its
-    /// statements. 19 says that there is one to read; 13, that the rule is none, and nothing is changed,
-    /// not even the parser; any other answer is final.
+    /// statements: the newline index is written as by [`read`]. 19 says that there is one to read; 13,
+    /// that the rule is none, and nothing is changed, not even the parser; any other answer is final.
     pub fn begin(
         &mut self,
         source: &[u8],
         tokens: &mut [u32],
         errors: &mut [u32],
         nodes: &mut [u32],
+        index: &mut [u32],
     ) -> Answer {
-        self.call(c::kettleplume_begin, source, tokens, errors, nodes)
+        self.call(c::kettleplume_begin, source, tokens, errors, nodes, index)
     }
 
-    /// Reads one top-level statement, over the source and the tables as the last call left them. 19
-    /// says that there is another; 18, that parser and tables don't go together, and 13, that the rule
-    /// is none, and nothing is changed; any other answer is final, and is given again from then on.
+    /// Reads one top-level statement, over the source, the tables and the index as the last call left
+    /// them. 19 says that there is another; 18, that parser, tables and index don't go together, and 13,
+    /// that the rule is none, and nothing is changed; any other answer is final, and is given again from
+    /// then on.
+    ///
+    /// The index is not written. Any words in it get an answer: from a Newline the read goes on where the
+    /// word leads, or at the Newline itself if that is back.
     // It is lent tables at each call, so it is no iterator.
     #[allow(clippy::should_implement_trait)]
     pub fn next(
@@ -171,8 +190,9 @@ impl Parser {
         tokens: &mut [u32],
         errors: &mut [u32],
         nodes: &mut [u32],
+        index: &mut [u32],
     ) -> Answer {
-        self.call(c::kettleplume_next, source, tokens, errors, nodes)
+        self.call(c::kettleplume_next, source, tokens, errors, nodes, index)
     }
 
     fn call(
@@ -182,6 +202,7 @@ impl Parser {
         tokens: &mut [u32],
         errors: &mut [u32],
         nodes: &mut [u32],
+        index: &mut [u32],
     ) -> Answer {
         // As in `read`; the parser is lent alone too.
         unsafe {
@@ -195,6 +216,8 @@ impl Parser {
                 errors.len(),
                 nodes.as_mut_ptr(),
                 nodes.len(),
+                index.as_mut_ptr(),
+                index.len(),
             )
         }
     }
@@ -257,15 +280,18 @@ macro_rules! answering {
 answering! {
     kettleplume_read(
         rule: u32, way: u32, source: *const u8, length: usize, tokens: *mut u32, token_words: usize,
-        errors: *mut u32, error_words: usize, nodes: *mut u32, node_words: usize
+        errors: *mut u32, error_words: usize, nodes: *mut u32, node_words: usize,
+        index: *mut u32, index_words: usize
     );
     kettleplume_begin(
         parser: *mut Parser, source: *const u8, length: usize, tokens: *mut u32, token_words: usize,
-        errors: *mut u32, error_words: usize, nodes: *mut u32, node_words: usize
+        errors: *mut u32, error_words: usize, nodes: *mut u32, node_words: usize,
+        index: *mut u32, index_words: usize
     );
     kettleplume_next(
         parser: *mut Parser, source: *const u8, length: usize, tokens: *mut u32, token_words: usize,
-        errors: *mut u32, error_words: usize, nodes: *mut u32, node_words: usize
+        errors: *mut u32, error_words: usize, nodes: *mut u32, node_words: usize,
+        index: *mut u32, index_words: usize
     );
 }
 
@@ -273,6 +299,8 @@ answering! {
 type Lent = unsafe fn(
     *mut Parser,
     *const u8,
+    usize,
+    *mut u32,
     usize,
     *mut u32,
     usize,

@@ -28,7 +28,8 @@ pub enum Error {
     TooDeep,
     /// 9: no closed string begins where one was to be decoded.
     NoString,
-    /// 10: the decoded string is longer than its buffer.
+    /// 10: the decoded string is longer than its buffer, or a script has more tokens than the newline
+    /// index has words, and so nothing was parsed.
     BufferRoom,
     /// 11: the lexer recorded errors, and so nothing was parsed.
     NotParsed,
@@ -104,7 +105,10 @@ impl fmt::Display for Error {
             Error::NodeRoom => "the script has more parts than there is room for",
             Error::TooDeep => "the script is nested more than 128 levels deep",
             Error::NoString => "no closed string begins at that place",
-            Error::BufferRoom => "the text of the string is longer than the buffer for it",
+            Error::BufferRoom => {
+                "the buffer for the text of a string, or the index of the script's blank lines, is too \
+                 short"
+            }
             Error::NotParsed => {
                 "the script has mistakes in its words or marks, so its statements were not read"
             }

@@ -89,20 +89,23 @@
 //!
 //! # The lower call
 //!
-//! The library itself allocates nothing. It fills three tables of words that the caller lends, of any
-//! size, and [`border`] has its functions. Each table holds records one behind the other:
+//! The library itself allocates nothing. It fills three tables of words and an index that the caller
+//! lends, of any size, and [`border`] has its functions. Each table holds records one behind the other:
 //!
 //! - a token is [`TOKEN_WORDS`](tables::TOKEN_WORDS) words: kind, start, length, line, value sort, two value words,
 //!   the line where it begins;
 //! - an error is [`ERROR_WORDS`](tables::ERROR_WORDS) words: message, line, pos;
 //! - a node is [`NODE_WORDS`](tables::NODE_WORDS) words: kind, three tokens, four children, next.
 //!
+//! The newline index has a word for each token: the reference of the first one from there on that is no
+//! Newline. Parsing passes blank lines by it.
+//!
 //! References are index + 1, and 0 is nothing. [`Rooms::enough`] says how many records there can be,
 //! so that no reading ends for want of room; with less room, what was read before is kept.
 //!
 //! ```
 //! use kettleplume::border;
-//! use kettleplume::tables::{ERROR_WORDS, NODE_WORDS, TOKEN_WORDS};
+//! use kettleplume::tables::{ERROR_WORDS, INDEX_WORDS, NODE_WORDS, TOKEN_WORDS};
 //! use kettleplume::Rooms;
 //!
 //! let source = b"a = 1\n";
@@ -110,11 +113,16 @@
 //! let mut tokens = vec![0; TOKEN_WORDS * rooms.tokens];
 //! let mut errors = vec![0; ERROR_WORDS * rooms.errors];
 //! let mut nodes = vec![0; NODE_WORDS * rooms.nodes];
-//! let answer = border::read(1, 0, source, &mut tokens, &mut errors, &mut nodes);
+//! let mut index = vec![0; INDEX_WORDS * rooms.index];
+//! let answer = border::read(1, 0, source, &mut tokens, &mut errors, &mut nodes, &mut index);
 //! assert_eq!((answer.outcome, answer.tokens, answer.nodes), (0, 5, 4));
+//! // A token was tested for that often.
+//! assert_eq!(answer.looks, 59);
 //! // The first statement is node 4: an expression, whose last token is the third.
 //! assert_eq!(answer.first, 4);
 //! assert_eq!(nodes[NODE_WORDS * 3..NODE_WORDS * 4], [30, 3, 0, 0, 3, 0, 0, 0, 0]);
+//! // The fourth token is a Newline, and the fifth none.
+//! assert_eq!(index[..5], [1, 2, 3, 5, 5]);
 //! ```
 //!
 //! [`records`] has the kinds of nodes, the outcomes, the rules, the ways and which word of a record is what,

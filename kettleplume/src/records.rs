@@ -16,8 +16,11 @@ pub const TOKEN_WORDS: usize = 8;
 pub const ERROR_WORDS: usize = 3;
 /// Words of a node record: kind, three tokens, four children, next.
 pub const NODE_WORDS: usize = 9;
-/// The three, in the order of the tables.
-pub const WIDTHS: [usize; 3] = [TOKEN_WORDS, ERROR_WORDS, NODE_WORDS];
+/// Words of the newline index for each token: the reference of the first token from there on that is no
+/// Newline.
+pub const INDEX_WORDS: usize = 1;
+/// The four, in the order of the tables.
+pub const WIDTHS: [usize; 4] = [TOKEN_WORDS, ERROR_WORDS, NODE_WORDS, INDEX_WORDS];
 
 /// A token record.
 pub type Token = [u32; TOKEN_WORDS];
@@ -149,7 +152,8 @@ pub mod outcome {
     pub const TOO_DEEP: u32 = 8;
     /// No closed string begins where one was to be decoded.
     pub const NO_STRING: u32 = 9;
-    /// The decoded string is longer than its buffer.
+    /// The decoded string is longer than its buffer, or there are more tokens than the newline index has
+    /// words, and so nothing is parsed.
     pub const BUFFER_ROOM: u32 = 10;
     /// Lexing recorded an error, and so nothing is parsed.
     pub const NOT_PARSED: u32 = 11;

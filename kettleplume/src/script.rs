@@ -30,6 +30,9 @@ pub struct Script {
     pub errors: Vec<Recorded>,
     /// The top-level statements.
     pub stmts: Vec<Stmt>,
+    /// How often `check` was called, the original's test for a token: what the reading took, whatever the
+    /// machine. It is counted up to where reading ended.
+    pub looks: u32,
     /// Whether reading came to the end of the script, which it does in spite of most errors.
     ///
     /// - [`NotParsed`](Error::NotParsed), where the lexer recorded errors: tokens and those errors are
@@ -53,6 +56,12 @@ pub struct Script {
 /// assert_eq!(script.end, Ok(()));
 /// assert_eq!(script.tokens.len(), 5);
 /// assert_eq!(script.stmts.len(), 1);
+/// ```
+///
+/// How much there was to do is told by the looks: one each time that a token is tested for.
+///
+/// ```
+/// assert_eq!(kettleplume::read("stop\n").looks, 38);
 /// ```
 ///
 /// A string of several lines has the last of them as its line; where it begins stands beside it.
@@ -106,6 +115,7 @@ pub fn read_as(options: Options, tables: &mut Tables, source: impl AsRef<[u8]>) 
         .collect();
     let (stmts, end) = statements(&records, &tokens);
     Script {
+        looks: records.answer.looks,
         errors: Recorded::all(source, records.errors),
         begins: records.tokens.iter().map(begins).collect(),
         tokens,
@@ -150,6 +160,7 @@ pub struct Parts {
     pub begins: Vec<i32>,
     pub errors: Vec<Recorded>,
     pub stmts: Vec<Stmt>,
+    pub looks: u32,
     pub end: Result<(), Error>,
 }
 
@@ -166,6 +177,7 @@ impl Script {
             begins: mem::take(&mut self.begins),
             errors: mem::take(&mut self.errors),
             stmts: mem::take(&mut self.stmts),
+            looks: self.looks,
             end: self.end,
         }
     }

@@ -3,21 +3,24 @@
 use crate::border::{self, Answer, Scanned};
 use crate::options::Options;
 
-pub use crate::records::{ERROR_WORDS, LONGEST, NODE_WORDS, TOKEN_WORDS};
+pub use crate::records::{ERROR_WORDS, INDEX_WORDS, LONGEST, NODE_WORDS, TOKEN_WORDS};
 
-/// How many records of each sort a source can need.
-#[derive(Debug, Clone, Copy, PartialEq, Eq)]
+/// How many records of each sort, and how many words of the newline index, a source can need.
+#[derive(Debug, Clone, Copy, PartialEq, Eq, Default)]
 pub struct Rooms {
     pub tokens: usize,
     pub errors: usize,
     pub nodes: usize,
+    pub index: usize,
 }
 
 impl Rooms {
-    /// Room enough for every source of so many bytes, so that no reading of one ends with 5, 6 or 7.
+    /// Room enough for every source of so many bytes, so that no reading of one ends with 5, 6, 7 or 10:
+    /// a theorem, `rooms-enough` of the Rattle crate `enough`. Why so many:
     ///
     /// - A token is at least a byte long, and tokens don't overlap; the added Newline and EOF
     ///   are empty. So `length + 2` tokens.
+    /// - The index has a word for each token.
     /// - A node can be laid to a token's charge: a name, number, bracket, prefix, operator, point,
     ///   keyword or parameter to its own, and an expression that stands as a statement to its first,
     ///   which has then two; so has a newline that stands for an empty statement. EOF has none. So
@@ -31,27 +34,25 @@ impl Rooms {
     /// A source over [`LONGEST`] is refused before any record is written: no room is needed.
     pub fn enough(length: usize) -> Rooms {
         if length > LONGEST {
-            return Rooms {
-                tokens: 0,
-                errors: 0,
-                nodes: 0,
-            };
+            return Rooms::default();
         }
         Rooms {
             tokens: length + 2,
             errors: 2 * length + 3,
             nodes: 2 * length + 2,
+            index: length + 2,
         }
     }
 }
 
-/// Three tables of a caller that reads many sources: they grow as needed, and what stood in them
-/// doesn't matter.
+/// Three tables and the newline index of a caller that reads many sources: they grow as needed, and what
+/// stood in them doesn't matter.
 #[derive(Debug, Clone, Default)]
 pub struct Tables {
     tokens: Vec<u32>,
     errors: Vec<u32>,
     nodes: Vec<u32>,
+    index: Vec<u32>,
 }
 
 /// A reading's answer and the records that it kept.
@@ -79,8 +80,9 @@ impl Tables {
         let tokens = lent(&mut self.tokens, TOKEN_WORDS * rooms.tokens);
         let errors = lent(&mut self.errors, ERROR_WORDS * rooms.errors);
         let nodes = lent(&mut self.nodes, NODE_WORDS * rooms.nodes);
+        let index = lent(&mut self.index, INDEX_WORDS * rooms.index);
         let (rule, way) = (options.rule.number(), options.way.number());
-        let answer = border::read(rule, way, source, tokens, errors, nodes);
+        let answer = border::read(rule, way, source, tokens, errors, nodes, index);
         Records {
             answer,
             tokens: &tokens.as_chunks().0[..answer.tokens as usize],
@@ -89,7 +91,8 @@ impl Tables {
         }
     }
 
-    /// Lexes a source by rule one without parsing it: the answer has no nodes and no first statement.
+    /// Lexes a source by rule one without parsing it: the answer has no nodes, no first statement and no
+    /// looks.
     pub fn scan(&mut self, source: &[u8]) -> Records<'_> {
         self.scan_as(Options::default(), source)
     }

@@ -5,9 +5,9 @@ use std::ops::Range;
 
 use expected::lexing::{expect, expect_decoding};
 use expected::rules::WRONG;
-use expected::whole::{self, known, Known};
+use expected::whole::{self, known, Known, Rooms};
 use kettleplume::border::{decode, read, scan, Answer, Decoded, Parser, Scanned};
-use kettleplume::records::{outcome, rule, way, ERROR_WORDS, LONGEST, NODE_WORDS, TOKEN_WORDS};
+use kettleplume::records::{outcome, rule, way, ERROR_WORDS, LONGEST, WIDTHS};
 
 /// What stood in a table before.
 const BEFORE: u32 = 0x5a5a_5a5a;
@@ -44,32 +44,50 @@ impl Guarded {
     }
 }
 
-/// Three tables of so many records, each with a spare tail shorter than one.
+/// Three tables of so many records, each with a spare tail shorter than one, and a newline index of so many
+/// words.
 #[derive(Debug, Clone, PartialEq, Eq)]
 struct Lent {
     tokens: Guarded,
     errors: Guarded,
     nodes: Guarded,
+    index: Guarded,
 }
 
 impl Lent {
-    fn new(rooms: [usize; 3], spare: usize) -> Lent {
-        let table = |room: usize, words: usize| Guarded::new(room * words + spare % words);
+    fn new(rooms: Rooms, spare: usize) -> Lent {
+        let table = |at: usize| Guarded::new(rooms[at] * WIDTHS[at] + spare % WIDTHS[at]);
+        let [tokens, errors, nodes, index] = [0, 1, 2, 3].map(table);
         Lent {
-            tokens: table(rooms[0], TOKEN_WORDS),
-            errors: table(rooms[1], ERROR_WORDS),
-            nodes: table(rooms[2], NODE_WORDS),
+            tokens,
+            errors,
+            nodes,
+            index,
         }
     }
 
-    fn read(&mut self, rule: u32, way: u32, source: &[u8]) -> Answer {
+    /// All four, as they are lent.
+    fn lent(&mut self) -> [&mut [u32]; 4] {
         let Lent {
             tokens,
             errors,
             nodes,
+            index,
         } = self;
-        let (tokens, errors, nodes) = (tokens.lent(), errors.lent(), nodes.lent());
-        read(rule, way, source, tokens, errors, nodes)
+        [tokens, errors, nodes, index].map(Guarded::lent)
+    }
+
+    /// They hold what is expected.
+    fn holds(&self, expected: &whole::Answer) {
+        self.tokens.holds(&expected.tokens, BEFORE);
+        self.errors.holds(&expected.errors, BEFORE);
+        self.nodes.holds(&expected.nodes, 0);
+        self.index.holds(words(&expected.index), BEFORE);
+    }
+
+    fn read(&mut self, rule: u32, way: u32, source: &[u8]) -> Answer {
+        let [tokens, errors, nodes, index] = self.lent();
+        read(rule, way, source, tokens, errors, nodes, index)
     }
 
     fn scan(&mut self, rule: u32, source: &[u8]) -> Scanned {
@@ -77,22 +95,19 @@ impl Lent {
     }
 
     fn begin(&mut self, parser: &mut Parser, source: &[u8]) -> Answer {
-        let Lent {
-            tokens,
-            errors,
-            nodes,
-        } = self;
-        parser.begin(source, tokens.lent(), errors.lent(), nodes.lent())
+        let [tokens, errors, nodes, index] = self.lent();
+        parser.begin(source, tokens, errors, nodes, index)
     }
 
     fn next(&mut self, parser: &mut Parser, source: &[u8]) -> Answer {
-        let Lent {
-            tokens,
-            errors,
-            nodes,
-        } = self;
-        parser.next(source, tokens.lent(), errors.lent(), nodes.lent())
+        let [tokens, errors, nodes, index] = self.lent();
+        parser.next(source, tokens, errors, nodes, index)
     }
+}
+
+/// An index as records of one word.
+fn words(index: &[u32]) -> &[[u32; 1]] {
+    index.as_chunks().0
 }
 
 const RULES: [u32; 2] = [rule::ONE, rule::TWO];
@@ -119,13 +134,20 @@ const SCRIPTS: [&str; 14] = [
 ];
 
 /// Rooms around what a reading needs: none, one less of each, just enough, one more, and a mixture.
-fn rooms(needs: [usize; 3]) -> Vec<[usize; 3]> {
+/// The index is mostly long enough, so that the others are met.
+fn rooms(needs: Rooms) -> Vec<Rooms> {
     let choices = needs.map(|n| [0, 1, n / 2, n.saturating_sub(1), n, n + 1]);
+    let [tokens, errors, nodes, index] = needs;
     let mut all = vec![];
     for tokens in choices[0] {
         for errors in choices[1] {
-            all.extend(choices[2].map(|nodes| [tokens, errors, nodes]));
+            all.extend(choices[2].map(|nodes| [tokens, errors, nodes, index]));
         }
+    }
+    for index in choices[3].into_iter().chain([index + 3]) {
+        all.push([tokens, errors, nodes, index]);
+        all.push([tokens, 0, 0, index]);
+        all.push([tokens.saturating_sub(1), errors, nodes, index]);
     }
     all.sort();
     all.dedup();
@@ -137,7 +159,7 @@ struct Tried<'a> {
     rule: u32,
     script: &'a str,
     whole: &'a whole::Whole,
-    rooms: [usize; 3],
+    rooms: Rooms,
     spare: usize,
 }
 
@@ -172,6 +194,7 @@ fn counts(answer: &whole::Answer) -> Answer {
         errors: answer.errors.len() as u32,
         nodes: answer.nodes.len() as u32,
         first: answer.first,
+        looks: answer.looks,
     }
 }
 
@@ -191,14 +214,12 @@ fn whole_readings() {
             let mut lent = Lent::new(rooms, spare);
             let answer = lent.read(rule, way, script.as_bytes());
             assert_eq!(answer, counts(&expected), "{script:?} in {rooms:?}");
-            lent.tokens.holds(&expected.tokens, BEFORE);
-            lent.errors.holds(&expected.errors, BEFORE);
-            lent.nodes.holds(&expected.nodes, 0);
+            lent.holds(&expected);
             outcomes[answer.outcome as usize] += 1;
         }
     });
     assert!(count > 1_000, "{count}");
-    for outcome in [0, 1, 2, 5, 6, 7, 11] {
+    for outcome in [0, 1, 2, 5, 6, 7, 10, 11] {
         assert!(outcomes[outcome] > 5, "{outcomes:?}");
     }
 }
@@ -212,9 +233,9 @@ fn statement_by_statement() {
         let Tried {
             rule,
             script,
+            whole: expected,
             rooms,
             spare,
-            ..
         } = tried;
         for way in ANY_WAYS {
             let source = script.as_bytes();
@@ -226,13 +247,18 @@ fn statement_by_statement() {
                 way,
                 current: 7,
                 ended: 1,
+                looks: 77,
                 ..Parser::default()
             };
             let mut answer = lent.begin(&mut parser, source);
+            let mut so_far = vec![];
             while answer.outcome == outcome::MORE {
+                assert_eq!(parser.looks, answer.looks);
+                so_far.push([answer.errors, answer.nodes, answer.looks]);
                 answer = lent.next(&mut parser, source);
                 statements += 1;
             }
+            assert_eq!(so_far, expected.on(way, rooms).so_far);
             let left = (answer, lent.clone(), parser);
             assert_eq!(
                 (answer, &lent),
@@ -242,7 +268,10 @@ fn statement_by_statement() {
             assert_eq!(lent.next(&mut parser, source), answer);
             assert_eq!((answer, lent, parser), left);
             assert_eq!((parser.rule, parser.way), (rule, way));
-            assert_eq!(parser.outcome, answer.outcome);
+            assert_eq!(
+                (parser.outcome, parser.looks),
+                (answer.outcome, answer.looks)
+            );
             stopped += usize::from(answer.outcome == outcome::NOT_PARSED);
         }
     });
@@ -252,7 +281,7 @@ fn statement_by_statement() {
 /// A parser that doesn't go with its tables: nothing is changed.
 #[test]
 fn a_parser_of_other_tables() {
-    let (mut lent, mut parser) = (Lent::new([5, 1, 9], 2), Parser::default());
+    let (mut lent, mut parser) = (Lent::new([5, 1, 9, 5], 2), Parser::default());
     let refused = Answer {
         outcome: outcome::MISMATCH,
         ..Answer::default()
@@ -260,9 +289,9 @@ fn a_parser_of_other_tables() {
     let before = (lent.clone(), parser);
     assert_eq!(lent.next(&mut parser, b"a = 1\n"), refused);
     assert_eq!((lent, parser), before);
-    let mut lent = Lent::new([0, 0, 0], 0);
+    let mut lent = Lent::new([0; 4], 0);
     assert_eq!(lent.next(&mut parser, b"a = 1\n"), refused);
-    assert_eq!(lent, Lent::new([0, 0, 0], 0));
+    assert_eq!(lent, Lent::new([0; 4], 0));
 }
 
 #[test]
@@ -303,7 +332,7 @@ fn refused_sources() {
             outcome,
             ..Answer::default()
         };
-        for rooms in [[0, 0, 0], [3, 3, 3]] {
+        for rooms in [[0; 4], [3; 4]] {
             let before = Lent::new(rooms, 1);
             let mut lent = before.clone();
             for (rule, way) in RULES.into_iter().flat_map(|r| ANY_WAYS.map(|w| (r, w))) {
@@ -345,7 +374,7 @@ fn numbers_that_name_no_rule() {
         vec![b'a'; LONGEST + 1],
     ];
     for (source, rule) in sources.iter().flat_map(|s| WRONG.map(|r| (s, r))) {
-        for rooms in [[0, 0, 0], [9, 9, 9]] {
+        for rooms in [[0; 4], [9; 4]] {
             let before = Lent::new(rooms, 1);
             let mut lent = before.clone();
             for way in ANY_WAYS {
@@ -362,6 +391,7 @@ fn numbers_that_name_no_rule() {
                     last: 7,
                     ended: way % 2,
                     outcome: 9,
+                    looks: 10,
                 };
                 let mut parser = any;
                 assert_eq!(lent.begin(&mut parser, source), refused);
@@ -387,7 +417,7 @@ fn a_rule_that_is_changed_between_calls() {
         ..Answer::default()
     };
     for rule in WRONG {
-        let (mut at_once, mut lent) = (Lent::new([9, 1, 9], 2), Lent::new([9, 1, 9], 2));
+        let (mut at_once, mut lent) = (Lent::new([9, 1, 9, 9], 2), Lent::new([9, 1, 9, 9], 2));
         let whole = at_once.read(rule::TWO, way::STOP, source);
         let mut parser = Parser {
             rule: rule::TWO,
@@ -427,12 +457,18 @@ fn a_rule_that_is_changed_between_calls() {
 #[test]
 fn too_many_levels() {
     let script = "a\n".to_string() + &"{".repeat(129);
-    let mut lent = Lent::new([200, 9, 300], 4);
+    let mut lent = Lent::new([200, 9, 300, 140], 4);
     let answer = lent.read(rule::ONE, way::STOP, script.as_bytes());
     let kept = [answer.outcome, answer.errors, answer.nodes, answer.first];
     assert_eq!(kept, [8, 0, 2, 2]);
+    // The first statement's, and twelve for each level.
+    assert_eq!(answer.looks, 38 + 128 * 12);
     let nodes = [[2, 1, 0, 0, 0, 0, 0, 0, 0], [30, 1, 0, 0, 1, 0, 0, 0, 0]];
     lent.nodes.holds(&nodes, 0);
+    // The index of all tokens, of which the second and the last but one are Newlines.
+    let mut index: Vec<[u32; 1]> = (1..=answer.tokens).map(|word| [word]).collect();
+    (index[1], index[131]) = ([3], [133]);
+    lent.index.holds(&index, BEFORE);
 }
 
 /// Strings decoded into buffers of many lengths, between guard bytes.
@@ -472,7 +508,7 @@ fn decodings() {
 /// Document 01's worked example, word for word.
 #[test]
 fn worked_example() {
-    let mut lent = Lent::new([10, 10, 10], 0);
+    let mut lent = Lent::new([10; 4], 0);
     let answer = lent.read(rule::ONE, way::STOP, b"a = 1\n");
     let expected = Answer {
         outcome: 0,
@@ -480,6 +516,7 @@ fn worked_example() {
         errors: 0,
         nodes: 4,
         first: 4,
+        looks: 59,
     };
     assert_eq!(answer, expected);
     let one = 1f64.to_bits();
@@ -503,4 +540,5 @@ fn worked_example() {
         ],
         0,
     );
+    lent.index.holds(&[[1], [2], [3], [5], [5]], BEFORE);
 }

@@ -10,7 +10,7 @@ use std::process::{Command, Output, Stdio};
 use std::sync::atomic::{AtomicUsize, Ordering};
 
 use kettleplume::border::{self, Answer};
-use kettleplume::records::{outcome, rule, way, ERROR_WORDS, NODE_WORDS, TOKEN_WORDS};
+use kettleplume::records::{outcome, rule, way, ERROR_WORDS, INDEX_WORDS, NODE_WORDS, TOKEN_WORDS};
 
 /// A folder of one test, with the scripts that it reads.
 struct Folder(PathBuf);
@@ -993,10 +993,11 @@ fn outlines_of_the_proved_program() {
 
 /// What the program `outline` prints, by its rooms, or nothing where one of them is too small.
 fn within_rooms(script: &[u8]) -> Option<String> {
-    let (mut tokens, mut errors, mut nodes) = (
+    let (mut tokens, mut errors, mut nodes, mut index) = (
         [0; TOKEN_WORDS * 2048],
         [0; ERROR_WORDS * 256],
         [0; NODE_WORDS * 1600],
+        [0; INDEX_WORDS * 2048],
     );
     let answer = border::read(
         rule::ONE,
@@ -1005,6 +1006,7 @@ fn within_rooms(script: &[u8]) -> Option<String> {
         &mut tokens,
         &mut errors,
         &mut nodes,
+        &mut index,
     );
     if script.len() > 4096 || (outcome::TOKEN_ROOM..=outcome::NODE_ROOM).contains(&answer.outcome) {
         return None;
@@ -1015,6 +1017,7 @@ fn within_rooms(script: &[u8]) -> Option<String> {
         errors: e,
         nodes: n,
         first,
+        ..
     } = answer;
     let mut lines = vec![format!("o {outcome} {t} {e} {n} {first}")];
     let mut table = |letter: &str, words: &[u32], width: usize, shown: &[usize], count: u32| {

@@ -3,7 +3,7 @@
 mod common;
 
 use kettleplume::border;
-use kettleplume::records::{outcome, rule, way, ERROR_WORDS, NODE_WORDS, TOKEN_WORDS};
+use kettleplume::records::{outcome, rule, way, ERROR_WORDS, INDEX_WORDS, NODE_WORDS, TOKEN_WORDS};
 use kettleplume::{Error, Options, Rooms, Rule, Tables, Way, LONGEST};
 
 /// Reads a source by each rule with tables of just the rooms that are said to be enough, on the way that
@@ -15,7 +15,7 @@ fn has_room(tables: &mut Tables, source: &[u8]) {
         let shown = source.escape_ascii();
         let full = matches!(
             outcome,
-            outcome::TOKEN_ROOM | outcome::ERROR_ROOM | outcome::NODE_ROOM
+            outcome::TOKEN_ROOM | outcome::ERROR_ROOM | outcome::NODE_ROOM | outcome::BUFFER_ROOM
         );
         assert!(!full, "outcome {outcome} of {shown}");
     }
@@ -89,26 +89,25 @@ fn long_sources_find_room() {
     }
 }
 
-/// Newlines are walked anew at each look, by the original and so by the library: 65,535 take it many
-/// seconds.
 #[test]
 fn newlines_find_room() {
     let mut tables = Tables::new();
-    for count in (0..64).chain([4_000]) {
+    for count in (0..64).chain([4_000, LONGEST]) {
         has_room(&mut tables, "\n".repeat(count).as_bytes());
     }
 }
 
-/// The bound for tokens is met wherever each byte is a token of its own, and one room less is not
-/// enough.
+/// The bounds for tokens and for the index are met wherever each byte is a token of its own, and one room
+/// less is not enough.
 #[test]
 fn the_bound_for_tokens_is_met() {
     for source in ["a", "a1", "a1+[]"] {
         let rooms = Rooms::enough(source.len());
-        let read = |tokens: usize| {
+        let read = |tokens: usize, index: usize| {
             let mut tokens = vec![0; TOKEN_WORDS * tokens];
             let mut errors = vec![0; ERROR_WORDS * rooms.errors];
             let mut nodes = vec![0; NODE_WORDS * rooms.nodes];
+            let mut index = vec![0; INDEX_WORDS * index];
             let source = source.as_bytes();
             border::read(
                 rule::ONE,
@@ -117,27 +116,33 @@ fn the_bound_for_tokens_is_met() {
                 &mut tokens,
                 &mut errors,
                 &mut nodes,
+                &mut index,
             )
         };
-        let answer = read(rooms.tokens);
+        let answer = read(rooms.tokens, rooms.index);
         assert_eq!(
             (answer.outcome, answer.tokens as usize),
             (outcome::DONE, rooms.tokens)
         );
-        assert_eq!(read(rooms.tokens - 1).outcome, outcome::TOKEN_ROOM);
+        let shorter = [
+            (rooms.tokens - 1, rooms.index, outcome::TOKEN_ROOM),
+            (rooms.tokens, rooms.index - 1, outcome::BUFFER_ROOM),
+        ];
+        for (tokens, index, outcome) in shorter {
+            assert_eq!(read(tokens, index).outcome, outcome);
+        }
     }
 }
 
 #[test]
 fn what_is_too_long_needs_no_room() {
-    assert_eq!(
-        Rooms::enough(LONGEST + 1),
-        Rooms {
-            tokens: 0,
-            errors: 0,
-            nodes: 0
-        }
-    );
+    let none = Rooms {
+        tokens: 0,
+        errors: 0,
+        nodes: 0,
+        index: 0,
+    };
+    assert_eq!(Rooms::enough(LONGEST + 1), none);
     let script = kettleplume::read(vec![b'a'; LONGEST + 1]);
     assert_eq!(script.end, Err(Error::TooLong));
     assert_eq!(kettleplume::read(vec![b'a'; LONGEST]).end, Ok(()));

@@ -102,6 +102,7 @@ fn scripts_by_rule_two() {
             let records = tables.read_as(TWO, script.as_bytes());
             assert_ne!(records.answer.outcome, outcome::POINT_AT_END, "{script:?}");
             assert_eq!(records.answer.outcome, expected.outcome, "{script:?}");
+            assert_eq!(records.answer.looks, expected.looks, "{script:?}");
             assert_eq!(records.tokens, expected.tokens, "{script:?}");
             assert_eq!(records.errors, expected.errors, "{script:?}");
             assert_eq!(records.nodes, expected.nodes, "{script:?}");
@@ -120,10 +121,11 @@ fn one_at_a_time(options: Options, source: &[u8]) -> Answer {
     let mut tokens = vec![0; kettleplume::tables::TOKEN_WORDS * rooms.tokens];
     let mut errors = vec![0; kettleplume::tables::ERROR_WORDS * rooms.errors];
     let mut nodes = vec![0; kettleplume::tables::NODE_WORDS * rooms.nodes];
+    let mut index = vec![0; kettleplume::tables::INDEX_WORDS * rooms.index];
     let mut parser = Parser::new(options);
-    let mut answer = parser.begin(source, &mut tokens, &mut errors, &mut nodes);
+    let mut answer = parser.begin(source, &mut tokens, &mut errors, &mut nodes, &mut index);
     while answer.outcome == outcome::MORE {
-        answer = parser.next(source, &mut tokens, &mut errors, &mut nodes);
+        answer = parser.next(source, &mut tokens, &mut errors, &mut nodes, &mut index);
     }
     answer
 }
@@ -161,9 +163,13 @@ fn states_that_have_tokens() {
 #[test]
 fn numbers_that_name_no_rule() {
     for rule in expected::rules::WRONG {
-        let answer = border::read(rule, 0, b"a\n", &mut [], &mut [], &mut []);
+        let answer = border::read(rule, 0, b"a\n", &mut [], &mut [], &mut [], &mut []);
         let error = Error::of(answer.outcome);
         assert_eq!(error, Some(Error::WrongRule));
-        assert_eq!(numbers(answer)[1..], [0; 4]);
+        let refused = Answer {
+            outcome: outcome::WRONG_RULE,
+            ..Answer::default()
+        };
+        assert_eq!(answer, refused);
     }
 }

@@ -57,7 +57,7 @@ fn answers_on_both_ways() {
 }
 
 /// 11 leaves what the lexer left, a node table of zeros, and every other word as it was; for the pair it
-/// is a final answer.
+/// is a final answer. It comes before 10, so that the newline index may be too short.
 #[test]
 fn what_is_left_without_parsing() {
     let source = b"a $ b )\n";
@@ -66,9 +66,10 @@ fn what_is_left_without_parsing() {
             [7; TOKEN_WORDS * 6],
             [7; ERROR_WORDS * 3],
             [7; NODE_WORDS * 2 + 3],
+            [7; 4],
         )
     };
-    let (mut tokens, mut errors, mut nodes) = tables();
+    let (mut tokens, mut errors, mut nodes, mut index) = tables();
     let answer = border::read(
         rule::ONE,
         way::STOP,
@@ -76,9 +77,10 @@ fn what_is_left_without_parsing() {
         &mut tokens,
         &mut errors,
         &mut nodes,
+        &mut index,
     );
-    assert_eq!(numbers(answer), [11, 5, 1, 0, 0]);
-    let (mut lexed_tokens, mut lexed_errors, _) = tables();
+    assert_eq!((numbers(answer), answer.looks), ([11, 5, 1, 0, 0], 0));
+    let (mut lexed_tokens, mut lexed_errors, ..) = tables();
     border::scan(rule::ONE, source, &mut lexed_tokens, &mut lexed_errors);
     assert_eq!((tokens, errors), (lexed_tokens, lexed_errors));
     assert_eq!(
@@ -86,20 +88,21 @@ fn what_is_left_without_parsing() {
         (&[7; 8][..], &[7; 6][..])
     );
     assert!(nodes.iter().all(|word| *word == 0));
+    assert_eq!(index, [7; 4]);
 
-    let (mut tokens, mut errors, mut nodes) = tables();
+    let (mut tokens, mut errors, mut nodes, mut index) = tables();
     let mut parser = Parser::new(STOPPING);
     assert_eq!(
-        parser.begin(source, &mut tokens, &mut errors, &mut nodes),
+        parser.begin(source, &mut tokens, &mut errors, &mut nodes, &mut index),
         answer
     );
     assert_eq!((parser.ended, parser.outcome, parser.way), (1, 11, 0));
-    let left = (parser, tokens, errors, nodes);
+    let left = (parser, tokens, errors, nodes, index);
     assert_eq!(
-        parser.next(source, &mut tokens, &mut errors, &mut nodes),
+        parser.next(source, &mut tokens, &mut errors, &mut nodes, &mut index),
         answer
     );
-    assert_eq!((parser, tokens, errors, nodes), left);
+    assert_eq!((parser, tokens, errors, nodes, index), left);
 }
 
 /// Without an error of the lexer all is the same on both ways; with one there is what it left, and no more.

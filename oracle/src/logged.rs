@@ -1,7 +1,8 @@
 //! The original's parser with a log: when each node is finished, each error recorded, each
 //! top-level statement kept, and where a level too many would open. The original keeps no such
 //! order, but outcomes 6 to 8 of document 01 depend on it. Nor does it tell which token an error is
-//! about, from which the error's place comes.
+//! about, from which the error's place comes, nor count its looks, the calls of `check`: each event is
+//! noted with the looks before it.
 //!
 //! `build.rs` makes it from the unchanged `parser.rs` by putting calls in, and the one of rule two from
 //! that rule's. Whoever uses them compares their statements and errors with those of the parser
@@ -28,10 +29,19 @@ pub enum Event {
     Level,
 }
 
+/// An event, and how many looks came before it.
+#[derive(Debug, Clone, Copy, PartialEq, Eq)]
+pub struct Noted {
+    pub event: Event,
+    pub looks: u32,
+}
+
 /// A logged reading.
 #[derive(Debug, Clone)]
 pub struct Log {
-    pub events: Vec<Event>,
+    pub events: Vec<Noted>,
+    /// How many looks there were in all.
+    pub looks: u32,
     /// The parser's errors. The pos of each is the index of the token whose line it reports.
     pub errors: Vec<InterpreterError>,
     /// The statements that were finished.
@@ -56,6 +66,7 @@ pub fn parse(rule: Rule, tokens: Vec<TokenData>) -> Log {
     );
     Log {
         events: state.events,
+        looks: state.looks,
         errors: state.errors,
         stmts: state.stmts,
         stopped: !ended,
@@ -66,7 +77,7 @@ const TOO_DEEP: &str = "a level over the limit";
 
 /// The state, with what the parser uses of the original's, and the log.
 mod state {
-    use super::{Event, LEVELS, TOO_DEEP};
+    use super::{Event, Noted, LEVELS, TOO_DEEP};
     pub use crate::state::InterpreterError;
     use crate::stmt::Stmt;
     use crate::token::TokenData;
@@ -75,7 +86,8 @@ mod state {
         pub tokens: Vec<TokenData>,
         pub errors: Vec<InterpreterError>,
         pub stmts: Vec<Stmt>,
-        pub events: Vec<Event>,
+        pub events: Vec<Noted>,
+        pub looks: u32,
         levels: u32,
     }
 
@@ -86,13 +98,23 @@ mod state {
                 errors: vec![],
                 stmts: vec![],
                 events: vec![],
+                looks: 0,
                 levels: 0,
             }
         }
 
+        fn note(&mut self, event: Event) {
+            let looks = self.looks;
+            self.events.push(Noted { event, looks });
+        }
+
+        pub fn look(&mut self) {
+            self.looks += 1;
+        }
+
         pub fn set_error(&mut self, err: InterpreterError) {
             self.errors.push(err);
-            self.events.push(Event::Error);
+            self.note(Event::Error);
         }
 
         pub fn fatal_error(&mut self, err: InterpreterError) {
@@ -101,17 +123,17 @@ mod state {
         }
 
         pub fn node(&mut self, kind: u32) {
-            self.events.push(Event::Node(kind));
+            self.note(Event::Node(kind));
         }
 
         pub fn keep(&mut self, stmt: Stmt) {
             self.stmts.push(stmt);
-            self.events.push(Event::Statement);
+            self.note(Event::Statement);
         }
 
         pub fn open(&mut self) {
             if self.levels == LEVELS {
-                self.events.push(Event::Level);
+                self.note(Event::Level);
                 panic!("{TOO_DEEP}");
             }
             self.levels += 1;

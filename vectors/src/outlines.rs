@@ -8,6 +8,7 @@ use std::{fs, iter};
 
 use expected::lexing::rust_string;
 use expected::records::{outcome, rule, way};
+use expected::whole::with_index;
 use oracle::{on_large_stack, Rule};
 
 use crate::definition::{case, End, Script};
@@ -15,7 +16,8 @@ use crate::files::File;
 use crate::folders::{root, OUTCOMES};
 use crate::lexing::judge::token_words;
 
-/// The most bytes that `outline` has room for, and its rooms for tokens, errors and nodes.
+/// The most bytes that `outline` has room for, and its rooms for tokens, errors and nodes; its newline
+/// index has a word for each token.
 const MOST_BYTES: usize = 4096;
 const ROOMS: [usize; 3] = [2048, 256, 1600];
 
@@ -35,13 +37,13 @@ pub fn outline(source: &[u8], ends: Option<(u32, [usize; 3])>) -> String {
         text: source.iter().map(|b| char::from(*b)).collect(),
         ends: ends.map(|(outcome, kept)| End {
             outcome,
-            rooms: ROOMS,
+            rooms: with_index(ROOMS),
             kept,
         }),
     };
     let words = on_large_stack(|| case(&script).words);
-    let &[_, tokens, errors, nodes, _] = &words[0][..] else {
-        panic!("an answer is five words");
+    let &[_, tokens, errors, nodes, _, _] = &words[0][..] else {
+        panic!("an answer is six words");
     };
     let counts = [tokens, errors, nodes].map(|n| n as usize);
     assert!(
@@ -50,7 +52,8 @@ pub fn outline(source: &[u8], ends: Option<(u32, [usize; 3])>) -> String {
     );
     let tokens = &on_large_stack(|| token_words(Rule::One, rust_string(source)))[..counts[0]];
     let (errors, nodes) = words[1..].split_at(counts[1]);
-    let mut out = line('o', &words[0]);
+    // The looks, its last word, are no part of an outline.
+    let mut out = line('o', &words[0][..5]);
     out.extend(tokens.iter().map(|token| line('t', token)));
     out.extend(errors.iter().map(|error| line('e', error)));
     out.extend(nodes.iter().map(|node| line('n', node)));

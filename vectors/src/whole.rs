@@ -7,9 +7,9 @@ use expected::dice::Dice;
 use expected::maker::Maker;
 use expected::records::{rule, way, WIDTHS};
 use expected::scripts::{
-    around, bytes, ruled, LISTED, MISLEXED, MISLEXED_SMALL, RULED_SMALL, SMALL, WAYS,
+    around, bytes, ruled, INDEXED, LISTED, MISLEXED, MISLEXED_SMALL, RULED_SMALL, SMALL, WAYS,
 };
-use expected::whole::{known, Answer, Known};
+use expected::whole::{known, with_index, Answer, Known, Rooms};
 use oracle::on_large_stack;
 
 use crate::files::{made_by, File};
@@ -48,6 +48,7 @@ pub fn vectors() -> Vectors {
         vectors.listed();
         vectors.small();
         vectors.mislexed();
+        vectors.indexed();
         vectors.levels();
         vectors.ruled();
         vectors.no_rule();
@@ -69,7 +70,16 @@ impl Vectors {
         for (rule, scripts) in [(rule::ONE, SMALL), (rule::TWO, RULED_SMALL)] {
             for (at, (text, _, rooms, _)) in scripts.iter().enumerate() {
                 let tails = WIDTHS.map(|width| at % width);
-                self.add(rule, &bytes(text), *rooms, tails);
+                self.add(rule, &bytes(text), with_index(*rooms), tails);
+            }
+        }
+    }
+
+    /// Newline indices that are too short, or just not.
+    fn indexed(&mut self) {
+        for (text, _, rooms, _) in INDEXED {
+            for rule in [rule::ONE, rule::TWO] {
+                self.add(rule, text.as_bytes(), *rooms, [0; 4]);
             }
         }
     }
@@ -87,8 +97,8 @@ impl Vectors {
     fn no_rule(&mut self) {
         for rule in NO_RULE {
             for source in [&b""[..], b"a1", b"1.5", b"a $", b"\xff"] {
-                self.add(rule, source, [3; 3], [1, 2, 8]);
-                self.add(rule, source, [0; 3], [0; 3]);
+                self.add(rule, source, [3; 4], [1, 2, 8, 0]);
+                self.add(rule, source, [0; 4], [0; 4]);
             }
         }
     }
@@ -98,11 +108,11 @@ impl Vectors {
         let rule = rule::ONE;
         for text in MISLEXED.iter().map(|text| text.as_bytes()) {
             self.exact(rule, text);
-            self.on(rule, 99_999, text, [9, 9, 9], [1, 1, 1]);
+            self.on(rule, 99_999, text, [9; 4], [1, 1, 1, 0]);
         }
         for (at, (text, _, rooms, _)) in MISLEXED_SMALL.iter().enumerate() {
             let tails = WIDTHS.map(|width| at % width);
-            self.add(rule, text.as_bytes(), *rooms, tails);
+            self.add(rule, text.as_bytes(), with_index(*rooms), tails);
         }
     }
 
@@ -127,11 +137,13 @@ impl Vectors {
                 continue;
             };
             let needs = whole.needs();
-            if (0..3).any(|table| WIDTHS[table] * (needs[table] + 1) > TABLE) {
+            if (0..needs.len()).any(|table| WIDTHS[table] * (needs[table] + 1) > TABLE) {
                 continue;
             }
-            self.add(rule, text.as_bytes(), needs, [0; 3]);
-            let fewer = needs.map(|room| room + 1 - maker.roll(room.min(3) + 1));
+            self.add(rule, text.as_bytes(), needs, [0; 4]);
+            let mut fewer = needs.map(|room| room + 1 - maker.roll(room.min(3) + 1));
+            // Too short an index keeps the rest from being met, so that is seldom.
+            fewer[3] = (needs[3] + maker.roll(8)).saturating_sub(1);
             let tails = WIDTHS.map(|width| maker.roll(width));
             self.add(rule, text.as_bytes(), fewer, tails);
         }
@@ -142,18 +154,18 @@ impl Vectors {
         let Known::Read(whole) = known(rule, source) else {
             panic!("a Rust string that isn't too long is read");
         };
-        self.add(rule, source, whole.needs(), [0; 3]);
+        self.add(rule, source, whole.needs(), [0; 4]);
     }
 
     /// A script in tables with rooms and spare tails, on both ways.
-    fn add(&mut self, rule: u32, source: &[u8], rooms: [usize; 3], tails: [usize; 3]) {
+    fn add(&mut self, rule: u32, source: &[u8], rooms: Rooms, tails: [usize; 4]) {
         for way in [way::GO_ON, way::STOP] {
             self.on(rule, way, source, rooms, tails);
         }
     }
 
-    fn on(&mut self, rule: u32, way: u32, source: &[u8], rooms: [usize; 3], tails: [usize; 3]) {
-        let sizes = [0, 1, 2].map(|table| WIDTHS[table] * rooms[table] + tails[table]);
+    fn on(&mut self, rule: u32, way: u32, source: &[u8], rooms: Rooms, tails: [usize; 4]) {
+        let sizes = [0, 1, 2, 3].map(|table| WIDTHS[table] * rooms[table] + tails[table]);
         assert!(sizes.iter().all(|&size| size <= TABLE), "too large a table");
         let refused = |outcome| Answer {
             outcome,
@@ -163,8 +175,8 @@ impl Vectors {
             Known::Read(whole) => (whole.on(way, rooms), 0),
             Known::Refused(outcome) => (refused(outcome), FILL),
         };
-        let ([t, e, n], length) = (sizes, source.len());
-        let head = format!("{length:05} {rule:05} {way:05} {t:05} {e:05} {n:05}\n");
+        let ([t, e, n, x], length) = (sizes, source.len());
+        let head = format!("{length:05} {rule:05} {way:05} {t:05} {e:05} {n:05} {x:05}\n");
         self.stdin.extend(head.bytes());
         self.stdin.extend(source);
         self.stdin.push(b'\n');
@@ -174,22 +186,32 @@ impl Vectors {
     }
 
     /// The answer, then every word of each table.
-    fn write(&mut self, answer: &Answer, [t, e, n]: [usize; 3], behind: u32) {
+    fn write(&mut self, answer: &Answer, [t, e, n, x]: [usize; 4], behind: u32) {
         let Answer {
             outcome,
             tokens,
             errors,
             nodes,
+            index,
             first,
+            looks,
             ..
         } = answer;
         let counts = [tokens.len(), errors.len(), nodes.len()].map(|n| n as u32);
         let [token_count, error_count, node_count] = counts;
-        let head = [*outcome, token_count, error_count, node_count, *first];
+        let head = [
+            *outcome,
+            token_count,
+            error_count,
+            node_count,
+            *first,
+            *looks,
+        ];
         self.line('o', &head, head.len(), 0);
         self.line('t', tokens.as_flattened(), t, FILL);
         self.line('e', errors.as_flattened(), e, FILL);
         self.line('n', nodes.as_flattened(), n, behind);
+        self.line('x', index, x, FILL);
     }
 
     /// A letter and so many words: these, and then one word over and over.

@@ -31,7 +31,7 @@ fn theorems_say_how_they_are_made() {
             assert!(text.starts_with(&first), "{}", path.display());
         })
         .count();
-    assert_eq!(count, 11);
+    assert_eq!(count, 12);
 }
 
 /// What an earlier generator made and this one doesn't would stay for ever.

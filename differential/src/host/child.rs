@@ -13,9 +13,9 @@ use std::process::{self, ChildStdin, ChildStdout, Command, Stdio};
 use std::sync::OnceLock;
 use std::thread;
 
-use expected::records::{outcome, ERROR_WORDS, NODE_WORDS, TOKEN_WORDS};
+use expected::records::{outcome, ERROR_WORDS, INDEX_WORDS, NODE_WORDS, TOKEN_WORDS};
 
-use super::{Answer, DecodeAnswer, LexAnswer, ReadAnswer, Request};
+use super::{Answer, DecodeAnswer, LexAnswer, ReadAnswer, Request, SO_FAR};
 
 /// A running child.
 pub struct Child {
@@ -87,20 +87,21 @@ impl Request<'_> {
         let size = |n: usize| u32::try_from(n).expect("a size fits a word");
         let words = match self {
             Request::Source { bytes, behind } => {
-                [1, size(bytes.len()), u32::from(*behind), 0, 0, 0, 0]
+                [1, size(bytes.len()), u32::from(*behind), 0, 0, 0, 0, 0]
             }
             Request::Lex(c) => {
                 let (tokens, errors) = (size(c.token_words), size(c.error_words));
-                [2, tokens, errors, c.fill, c.rule, 0, 0]
+                [2, tokens, errors, c.fill, c.rule, 0, 0, 0]
             }
             Request::Decode(c) => {
                 let (low, high) = (c.start as u32, (c.start >> 32) as u32);
-                [3, size(c.room), u32::from(c.fill), low, high, 0, 0]
+                [3, size(c.room), u32::from(c.fill), low, high, 0, 0, 0]
             }
             Request::Read(c) => {
                 let (tokens, errors) = (size(c.token_words), size(c.error_words));
-                let (what, nodes) = (if c.pair { 5 } else { 4 }, size(c.node_words));
-                [what, tokens, errors, nodes, c.fill, c.rule, c.way]
+                let (nodes, index) = (size(c.node_words), size(c.index_words));
+                let what = if c.pair { 5 } else { 4 };
+                [what, tokens, errors, nodes, index, c.fill, c.rule, c.way]
             }
         };
         words
@@ -137,20 +138,22 @@ impl Request<'_> {
                 }))
             }
             Request::Read(call) => {
-                let head = words(from, 8)?;
-                let so_far = words(from, 4 * head[7] as usize)?;
+                let head = words(from, 9)?;
+                let so_far = words(from, SO_FAR * head[8] as usize)?;
                 Some(Answer::Read(ReadAnswer {
                     outcome: head[0],
                     tokens: head[1],
                     errors: head[2],
                     nodes: head[3],
                     first: head[4],
-                    intact: head[5] == 1,
-                    steady: head[6] == 1,
+                    looks: head[5],
+                    intact: head[6] == 1,
+                    steady: head[7] == 1,
                     so_far: so_far.as_chunks().0.to_vec(),
                     token_table: words(from, call.token_words)?,
                     error_table: words(from, call.error_words)?,
                     node_table: words(from, call.node_words)?,
+                    index_table: words(from, call.index_words)?,
                 }))
             }
         })
@@ -198,11 +201,13 @@ fn build() -> Vec<OsString> {
 }
 
 /// What `host.c` has to know: the numbers have their definition in Rust.
-fn numbers() -> [String; 6] {
+fn numbers() -> [String; 8] {
     [
         format!("-DTOKEN_WORDS={TOKEN_WORDS}"),
         format!("-DERROR_WORDS={ERROR_WORDS}"),
         format!("-DNODE_WORDS={NODE_WORDS}"),
+        format!("-DINDEX_WORDS={INDEX_WORDS}"),
+        format!("-DSO_FAR={SO_FAR}"),
         format!("-DMORE={}", outcome::MORE),
         format!("-DWRONG_RULE={}", outcome::WRONG_RULE),
         format!("-DMISMATCH={}", outcome::MISMATCH),

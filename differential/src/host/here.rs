@@ -3,7 +3,9 @@
 use expected::records::outcome;
 use kettleplume::border::{self, Parser};
 
-use super::{Answer, DecodeAnswer, DecodeCall, LexAnswer, LexCall, ReadAnswer, ReadCall, Request};
+use super::{
+    Answer, DecodeAnswer, DecodeCall, LexAnswer, LexCall, ReadAnswer, ReadCall, Request, SO_FAR,
+};
 
 /// How many words or bytes stand on each side of a table.
 const GUARD: usize = 8;
@@ -17,6 +19,7 @@ const MISMATCH: border::Answer = border::Answer {
     errors: 0,
     nodes: 0,
     first: 0,
+    looks: 0,
 };
 
 /// The source that the next calls are about, with what stands behind it.
@@ -50,7 +53,7 @@ impl Here {
 }
 
 /// A table between two guards.
-struct Guarded<T> {
+pub struct Guarded<T> {
     all: Vec<T>,
     guard: T,
 }
@@ -63,22 +66,31 @@ impl<T: Copy + PartialEq> Guarded<T> {
         Guarded { all, guard }
     }
 
-    fn lent(&mut self) -> &mut [T] {
+    pub fn lent(&mut self) -> &mut [T] {
         let end = self.all.len() - GUARD;
         &mut self.all[GUARD..end]
     }
 
-    fn intact(&self) -> bool {
+    pub fn intact(&self) -> bool {
         let end = self.all.len() - GUARD;
         let mut guards = self.all[..GUARD].iter().chain(&self.all[end..]);
         guards.all(|word| *word == self.guard)
     }
 
     /// The table without its guards.
-    fn table(mut self) -> Vec<T> {
+    pub fn table(mut self) -> Vec<T> {
         self.all.truncate(self.all.len() - GUARD);
         self.all.drain(..GUARD);
         self.all
+    }
+}
+
+impl Guarded<u32> {
+    /// A table that holds these words.
+    pub fn holding(words: &[u32]) -> Guarded<u32> {
+        let mut guarded = Guarded::new(words.len(), 0, GUARD_WORD);
+        guarded.lent().copy_from_slice(words);
+        guarded
     }
 }
 
@@ -112,30 +124,43 @@ fn decode(source: &[u8], call: &DecodeCall) -> DecodeAnswer {
 }
 
 fn read(source: &[u8], call: &ReadCall) -> ReadAnswer {
-    let mut tables =
-        [call.token_words, call.error_words, call.node_words].map(|size| words(size, call.fill));
+    let sizes = [
+        call.token_words,
+        call.error_words,
+        call.node_words,
+        call.index_words,
+    ];
+    let mut tables = sizes.map(|size| words(size, call.fill));
     let (answer, steady, so_far) = if call.pair {
         one_at_a_time(call, source, &mut tables)
     } else {
-        let [tokens, errors, nodes] = tables.each_mut().map(Guarded::lent);
-        let answer = border::read(call.rule, call.way, source, tokens, errors, nodes);
+        let [tokens, errors, nodes, index] = tables.each_mut().map(Guarded::lent);
+        let (rule, way) = (call.rule, call.way);
+        let answer = border::read(rule, way, source, tokens, errors, nodes, index);
         (answer, true, vec![])
     };
     let intact = tables.iter().all(Guarded::intact);
-    let [token_table, error_table, node_table] = tables.map(Guarded::table);
+    let [token_table, error_table, node_table, index_table] = tables.map(Guarded::table);
     ReadAnswer {
         outcome: answer.outcome,
         tokens: answer.tokens,
         errors: answer.errors,
         nodes: answer.nodes,
         first: answer.first,
+        looks: answer.looks,
         intact,
         steady,
         so_far,
         token_table,
         error_table,
         node_table,
+        index_table,
     }
+}
+
+/// All of an answer but the outcome.
+fn counts(a: &border::Answer) -> [u32; SO_FAR] {
+    [a.tokens, a.errors, a.nodes, a.first, a.looks]
 }
 
 /// Begins and reads up to the final answer, then once more: the answer, whether all is steady, as
@@ -144,24 +169,26 @@ fn read(source: &[u8], call: &ReadCall) -> ReadAnswer {
 fn one_at_a_time(
     call: &ReadCall,
     source: &[u8],
-    tables: &mut [Guarded<u32>; 3],
-) -> (border::Answer, bool, Vec<[u32; 4]>) {
+    tables: &mut [Guarded<u32>; 4],
+) -> (border::Answer, bool, Vec<[u32; SO_FAR]>) {
     let set = Parser {
         rule: call.rule,
         way: call.way,
         ..Parser::default()
     };
     let mut parser = set;
-    let [tokens, errors, nodes] = tables.each_mut().map(Guarded::lent);
-    let mut answer = parser.begin(source, tokens, errors, nodes);
+    let mut lent = tables.each_mut().map(Guarded::lent);
+    let [tokens, errors, nodes, index] = &mut lent;
+    let mut answer = parser.begin(source, tokens, errors, nodes, index);
     let mut so_far = vec![];
     while answer.outcome == outcome::MORE && so_far.len() < source.len() + 3 {
-        so_far.push([answer.tokens, answer.errors, answer.nodes, answer.first]);
-        answer = parser.next(source, tokens, errors, nodes);
+        so_far.push(counts(&answer));
+        answer = parser.next(source, tokens, errors, nodes, index);
     }
-    let kept = (parser, tokens.to_vec(), errors.to_vec(), nodes.to_vec());
-    let again = parser.next(source, tokens, errors, nodes);
-    let now = (parser, tokens.to_vec(), errors.to_vec(), nodes.to_vec());
+    let kept = (parser, lent.each_ref().map(|table| table.to_vec()));
+    let [tokens, errors, nodes, index] = &mut lent;
+    let again = parser.next(source, tokens, errors, nodes, index);
+    let now = (parser, lent.each_ref().map(|table| table.to_vec()));
     let last = match answer.outcome {
         outcome::WRONG_RULE => again == MISMATCH && parser == set,
         _ => again == answer && (parser.rule, parser.way) == (set.rule, set.way),

@@ -7,7 +7,9 @@ mod child;
 mod here;
 
 use child::Child;
+pub use here::Guarded;
 use here::Here;
+
 /// What the host is asked. A source stays set until the next one.
 #[derive(Debug, Clone)]
 pub enum Request<'a> {
@@ -48,6 +50,7 @@ pub struct ReadCall {
     pub token_words: usize,
     pub error_words: usize,
     pub node_words: usize,
+    pub index_words: usize,
     pub fill: u32,
 }
 
@@ -73,6 +76,9 @@ pub struct DecodeAnswer {
     pub buffer: Vec<u8>,
 }
 
+/// How many words of an answer 19 are compared: all but the outcome.
+pub const SO_FAR: usize = 5;
+
 /// The answer of a reading and the tables afterwards.
 #[derive(Debug, Clone)]
 pub struct ReadAnswer {
@@ -81,17 +87,19 @@ pub struct ReadAnswer {
     pub errors: u32,
     pub nodes: u32,
     pub first: u32,
+    pub looks: u32,
     /// Whether the guards round the tables are as they were.
     pub intact: bool,
     /// One statement at a time: whether a read after the final answer gave it again and changed
     /// nothing, and the parser has the rule and the way that were set. 13 is no final answer: then
     /// whether the parser is as it was set, and the read answered 18 and changed nothing.
     pub steady: bool,
-    /// One statement at a time: tokens, errors, nodes and first statement of each answer 19.
-    pub so_far: Vec<[u32; 4]>,
+    /// One statement at a time: tokens, errors, nodes, first statement and looks of each answer 19.
+    pub so_far: Vec<[u32; SO_FAR]>,
     pub token_table: Vec<u32>,
     pub error_table: Vec<u32>,
     pub node_table: Vec<u32>,
+    pub index_table: Vec<u32>,
 }
 
 /// What the host answers; a `Source` has no answer.

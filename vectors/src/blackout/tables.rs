@@ -4,16 +4,18 @@ use expected::lexing::{expect, rust_string};
 use expected::records::outcome;
 use expected::rules::{number, Rule};
 
-use crate::definition::answer;
+use crate::definition::{original, Case};
 
 /// What demand 3 says is the same.
 #[derive(Debug, Clone, PartialEq, Eq)]
 pub struct Tables {
-    /// Outcome, counts, and first statement.
+    /// Outcome, counts, first statement and looks.
     pub answer: Vec<u32>,
     pub tokens: Vec<u32>,
     pub errors: Vec<u32>,
     pub nodes: Vec<u32>,
+    /// The words of the kept tokens where it is filled.
+    pub index: Vec<u32>,
 }
 
 impl Tables {
@@ -23,21 +25,25 @@ impl Tables {
         let tokens = lexing.tokens.concat();
         if matches!(lexing.outcome, outcome::NO_TEXT | outcome::TOO_LONG) {
             // What is refused keeps nothing.
-            let answer = vec![lexing.outcome, 0, 0, 0, 0];
-            return Tables::kept(answer, tokens, vec![], vec![]);
+            return Tables {
+                answer: vec![lexing.outcome, 0, 0, 0, 0, 0],
+                tokens,
+                errors: vec![],
+                nodes: vec![],
+                index: vec![],
+            };
         }
-        let mut rows = answer(rule, rust_string(source));
-        let head = rows.remove(0);
-        let nodes = rows.split_off(head[2] as usize);
-        Tables::kept(head, tokens, rows.concat(), nodes.concat())
-    }
-
-    fn kept(answer: Vec<u32>, tokens: Vec<u32>, errors: Vec<u32>, nodes: Vec<u32>) -> Tables {
+        let Case {
+            mut words, index, ..
+        } = original(rule, rust_string(source));
+        let answer = words.remove(0);
+        let nodes = words.split_off(answer[2] as usize);
         Tables {
             answer,
             tokens,
-            errors,
-            nodes,
+            errors: words.concat(),
+            nodes: nodes.concat(),
+            index,
         }
     }
 }

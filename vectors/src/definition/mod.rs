@@ -2,7 +2,8 @@
 //! reading: each file in `crates/scripts/proofs` that is made here has one table of scripts and
 //! one theorem, which says that the definition answers as the original does. Where the original
 //! has no answer, for want of tables and levels, the outcome and how many records are kept follow
-//! document 01 and stand beside the script; the records themselves are still the original's.
+//! document 01 and stand beside the script; the records themselves are still the original's, and so are
+//! the looks, which its parser makes up to the record that finds no room.
 
 mod random;
 mod scripts;
@@ -14,7 +15,7 @@ use expected::maker::Maker;
 use expected::records::{outcome, way, NODE_WORDS};
 use expected::rules::{number, Rule};
 use expected::scripts::bytes;
-use expected::whole::{known, Known, Whole};
+use expected::whole::{known, with_index, Known, Rooms, Whole};
 use oracle::on_large_stack;
 
 use crate::files;
@@ -39,19 +40,21 @@ pub struct Script {
 #[derive(Clone, Copy)]
 pub struct End {
     pub outcome: u32,
-    /// The tables' rooms: tokens, errors, nodes.
-    pub rooms: [usize; 3],
+    /// The tables' rooms: tokens, errors, nodes, words of the newline index.
+    pub rooms: Rooms,
     /// How many tokens, errors and top-level statements of the original's reading are kept.
     pub kept: [usize; 3],
 }
 
-/// A case: a rule, a way, a script, the tables' rooms, and the words that are kept.
+/// A case: a rule, a way, a script, the tables' rooms, the words that are kept, which are the answer and
+/// each error and node, and those that are written into the newline index.
 pub struct Case {
     pub rule: u32,
     pub way: u32,
     pub text: String,
-    pub rooms: [usize; 3],
+    pub rooms: Rooms,
     pub words: Vec<Vec<u32>>,
+    pub index: Vec<u32>,
 }
 
 /// What the original makes of a script. Where document 01 decides instead, how the reading ends
@@ -63,12 +66,13 @@ pub fn case(script: &Script) -> Case {
         ref text,
         ends,
     } = script;
-    let case = |rooms, words| Case {
+    let case = |rooms, words, index| Case {
         rule,
         way,
         text: text.clone(),
         rooms,
         words,
+        index,
     };
     let whole = match known(rule, &bytes(text)) {
         Known::Read(whole) => whole,
@@ -77,7 +81,7 @@ pub fn case(script: &Script) -> Case {
             assert_eq!((outcome, [0; 3]), (end.outcome, end.kept), "{text:?}");
             // The node table, with its longest spare tail, is unchanged, also where it is not 0.
             let nodes = vec![FILL; NODE_WORDS * (end.rooms[2] + 1) - 1];
-            return case(end.rooms, vec![vec![outcome, 0, 0, 0, 0], nodes]);
+            return case(end.rooms, vec![vec![outcome, 0, 0, 0, 0, 0], nodes], vec![]);
         }
     };
     let rooms = ends.map_or_else(|| rooms(&whole), |end| end.rooms);
@@ -90,31 +94,30 @@ pub fn case(script: &Script) -> Case {
     assert_eq!(wrong, None, "the nodes aren't what is read: {text:?}");
     let [tokens, errors, _] = kept.map(|n| n as u32);
     let count = answer.nodes.len() as u32;
-    let mut words = vec![vec![answer.outcome, tokens, errors, count, answer.first]];
+    let (first, looks) = (answer.first, answer.looks);
+    let mut words = vec![vec![answer.outcome, tokens, errors, count, first, looks]];
     words.extend(answer.errors.iter().map(|e| e.to_vec()));
     words.extend(answer.nodes.iter().map(|n| n.to_vec()));
-    case(rooms, words)
+    case(rooms, words, answer.index)
 }
 
-/// What the original makes of a script by a rule with room enough: its answer, then each error and
-/// node.
-pub fn answer(rule: Rule, source: &str) -> Vec<Vec<u32>> {
-    let script = Script {
+/// What the original makes of a script by a rule with room enough.
+pub fn original(rule: Rule, source: &str) -> Case {
+    case(&Script {
         rule: number(rule),
         way: way::GO_ON,
         text: source.bytes().map(char::from).collect(),
         ends: None,
-    };
-    case(&script).words
+    })
 }
 
 /// Tables that hold what is read.
-fn rooms(whole: &Whole) -> [usize; 3] {
-    let [tokens, errors, nodes] = whole.needs();
+fn rooms(whole: &Whole) -> Rooms {
+    let [tokens, errors, nodes, _] = whole.needs();
     // A statement that stops has made nodes that the original doesn't tell.
-    match whole.within([tokens, errors, nodes]).outcome {
-        outcome::STOPPED => [tokens, errors, 2 * tokens],
-        _ => [tokens, errors, nodes],
+    match whole.within(whole.needs()).outcome {
+        outcome::STOPPED => with_index([tokens, errors, 2 * tokens]),
+        _ => with_index([tokens, errors, nodes]),
     }
 }
 
@@ -205,13 +208,18 @@ fn parts(cases: Vec<Case>) -> Vec<Vec<Case>> {
 fn theorem(number: usize, cases: &[Case]) -> String {
     let mut out = format!("\nabbrev cases-{number} : List Case\ncases-{number} =\n");
     for case in cases {
-        let [tokens, errors, nodes] = case.rooms;
-        let rows: Vec<String> = case.words.iter().map(|row| words(row)).collect();
+        let [tokens, errors, nodes, index] = case.rooms;
+        // Every word of the index is compared, also where it is as it was.
+        let mut whole_index = case.index.clone();
+        whole_index.resize(index, FILL);
+        let rows = case.words.iter().chain([&whole_index]);
+        let rows = rows.filter(|row| !row.is_empty());
+        let rows: Vec<String> = rows.map(|row| words(row)).collect();
         let (rule, way, text) = (case.rule, case.way, quoted(&case.text));
         let rows = rows.join("\n    ");
         writeln!(
             out,
-            "    case {rule} {way} {text} {tokens} {errors} {nodes}"
+            "    case {rule} {way} {text} {tokens} {errors} {nodes} {index}"
         )
         .expect("a line");
         writeln!(out, "    ({rows} []) ∷").expect("a line");

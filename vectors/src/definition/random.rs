@@ -3,7 +3,7 @@
 use super::{End, Script};
 use expected::maker::Maker;
 use expected::records::{outcome, rule, way};
-use expected::whole::Whole;
+use expected::whole::{with_index, Whole};
 use oracle::{read, Rule, Stop};
 
 /// The next script.
@@ -49,7 +49,7 @@ fn few_nodes(maker: &mut Maker) -> Option<Script> {
         text,
         ends: Some(End {
             outcome: outcome::NODE_ROOM,
-            rooms: [tokens + maker.roll(3), maker.roll(2), room],
+            rooms: with_index([tokens + maker.roll(3), maker.roll(2), room]),
             kept: [tokens, 0, kept],
         }),
     })
@@ -86,7 +86,7 @@ fn few_errors(maker: &mut Maker) -> Option<Script> {
         text,
         ends: Some(End {
             outcome: outcome::ERROR_ROOM,
-            rooms: [tokens, room, 3 * tokens],
+            rooms: with_index([tokens, room, 3 * tokens]),
             kept: [tokens, room, kept],
         }),
     })

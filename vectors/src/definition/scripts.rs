@@ -2,9 +2,10 @@
 
 use expected::records::{outcome, rule, way};
 use expected::scripts::{
-    around, many, LEFT_OF_EQUAL, MESSAGES, MISLEXED, MISLEXED_SMALL, MORE_WAYS, NEWLINES, RULED,
-    RULED_SMALL, SMALL, STARS, WAYS, WORKED,
+    around, many, INDEXED, LEFT_OF_EQUAL, MESSAGES, MISLEXED, MISLEXED_SMALL, MORE_WAYS, NEWLINES,
+    RULED, RULED_SMALL, SMALL, STARS, WAYS, WORKED,
 };
+use expected::whole::{with_index, Rooms};
 use oracle::{on_large_stack, read};
 
 use super::{End, File, Script};
@@ -35,18 +36,36 @@ fn both_ways() -> Vec<Script> {
     });
     let small = MISLEXED_SMALL
         .iter()
-        .flat_map(|(text, outcomes, rooms, kept)| {
-            [0, 1].map(|at| Script {
-                way: ways[at],
-                ends: Some(End {
-                    outcome: outcomes[at],
-                    rooms: *rooms,
-                    kept: kept[at],
-                }),
-                ..script(text)
-            })
+        .flat_map(|&(text, outcomes, rooms, kept)| {
+            ending_on_both(text, outcomes, with_index(rooms), kept)
         });
     enough.chain(small).collect()
+}
+
+/// A script that ends on the new way and on the old one so, in tables with these rooms.
+fn ending_on_both(
+    text: &str,
+    outcomes: [u32; 2],
+    rooms: Rooms,
+    kept: [[usize; 3]; 2],
+) -> [Script; 2] {
+    [0, 1].map(|at| Script {
+        way: [way::STOP, way::GO_ON][at],
+        ends: Some(End {
+            outcome: outcomes[at],
+            rooms,
+            kept: kept[at],
+        }),
+        ..script(text)
+    })
+}
+
+/// Newline indices that are too short, or just not, on both ways.
+fn indexed() -> Vec<Script> {
+    let scripts = INDEXED.iter();
+    scripts
+        .flat_map(|&(text, outcomes, rooms, kept)| ending_on_both(text, outcomes, rooms, kept))
+        .collect()
 }
 
 /// Numbers that name no rule, with scripts that would end in several ways, the last with 3.
@@ -75,7 +94,7 @@ fn both_rules() -> Vec<Script> {
         rule,
         ends: Some(End {
             outcome: outcome::WRONG_RULE,
-            rooms: [3; 3],
+            rooms: [3; 4],
             kept: [0; 3],
         }),
         ..script(text)
@@ -91,7 +110,7 @@ fn ending(scripts: &[(&str, u32, [usize; 3], [usize; 3])]) -> Vec<Script> {
         .map(|&(text, outcome, rooms, kept)| Script {
             ends: Some(End {
                 outcome,
-                rooms,
+                rooms: with_index(rooms),
                 kept,
             }),
             ..script(text)
@@ -158,6 +177,11 @@ pub fn files() -> Vec<File> {
             name: "Ways",
             comment: "Both ways of a reading: where lexing records an error, the old one with what the original answers, the new one with what its lexer does.",
             scripts: both_ways(),
+        },
+        File {
+            name: "Index",
+            comment: "Newline indices that are too short, which the original doesn't have, with what document 01 says; and some that are just long enough.",
+            scripts: indexed(),
         },
         File {
             name: "Rules",
