@@ -28,41 +28,35 @@ impl Lent {
     }
 
     fn read(&mut self, way: u32, source: &str) -> Answer {
-        let Lent {
-            tokens,
-            errors,
-            nodes,
-            index,
-        } = self;
         border::read(
             rule::ONE,
             way,
             source.as_bytes(),
-            tokens,
-            errors,
-            nodes,
-            index,
+            &mut self.tokens,
+            &mut self.errors,
+            &mut self.nodes,
+            &mut self.index,
         )
     }
 
     fn begin(&mut self, parser: &mut Parser, source: &str) -> Answer {
-        let Lent {
-            tokens,
-            errors,
-            nodes,
-            index,
-        } = self;
-        parser.begin(source.as_bytes(), tokens, errors, nodes, index)
+        parser.begin(
+            source.as_bytes(),
+            &mut self.tokens,
+            &mut self.errors,
+            &mut self.nodes,
+            &mut self.index,
+        )
     }
 
     fn next(&mut self, parser: &mut Parser, source: &str) -> Answer {
-        let Lent {
-            tokens,
-            errors,
-            nodes,
-            index,
-        } = self;
-        parser.next(source.as_bytes(), tokens, errors, nodes, index)
+        parser.next(
+            source.as_bytes(),
+            &mut self.tokens,
+            &mut self.errors,
+            &mut self.nodes,
+            &mut self.index,
+        )
     }
 }
 

@@ -50,6 +50,10 @@ class Facts(unittest.TestCase):
         one, end = setting(way=("make",), said="== via\nmake: at-token\n", own="make")
         self.assertEqual(facts(one, end), ["← (rw (@at-token .ensures) at (@make .ensures (T) (E)))"])
 
+    def test_via_others_rewrites_by_each_in_turn(self):
+        one, end = setting(way=("make",), said="== via\nmake: looked at-token\n", own="make")
+        self.assertEqual(facts(one, end), ["← (rw (@at-token .ensures) at ((rw (@looked .ensures) at (@make .ensures (T) (E)))))"])
+
     def test_a_loop_forgets_what_was_before(self):
         one, end = setting(way=("gives", "loop", "make"))
         self.assertEqual(facts(one, end), ["← @make .ensures (@args .tokens .now) (@loop .errors)"])

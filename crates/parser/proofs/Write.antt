@@ -77,15 +77,19 @@ pub counted-full : (n looks : ℕ) → 4294967295 - looks < n → looks + (42949
 unfolding countedBy
 counted-full n looks h = omega arith
 
+-- the state at token i with so many looks
+abbrev pub with-looks : State → ℕ → ℕ → State
+with-looks p i n = record { rule = p .rule; current = i; errors = p .errors; nodes = p .nodes; loops = p .loops; looks = n }
+
 -- looks one after the other are as many at once
 pub looked-more : (p : State) (m n : ℕ) → looked (looked p m) n ≡ looked p (m + n)
 unfolding countedBy
-looked-more p m n = let e : countedBy n (countedBy m (p .looks)) ≡ countedBy (m + n) (p .looks) = omega arith in ap (λ (x : ℕ). record { rule = p .rule; current = p .current; errors = p .errors; nodes = p .nodes; loops = p .loops; looks = x }) e
+looked-more p m n = let e : countedBy n (countedBy m (p .looks)) ≡ countedBy (m + n) (p .looks) = omega arith in ap (with-looks p (p .current)) e
 
 -- and none at all change nothing
 pub looked-none : (p : State) → looked p 0 ≡ p
 unfolding countedBy
-looked-none p = let e : countedBy 0 (p .looks) ≡ p .looks = omega arith in ap (λ (x : ℕ). record { rule = p .rule; current = p .current; errors = p .errors; nodes = p .nodes; loops = p .loops; looks = x }) e
+looked-none p = let e : countedBy 0 (p .looks) ≡ p .looks = omega arith in ap (with-looks p (p .current)) e
 
 -- ---- loops
 pub raised-more : (n : ℕ) → n < 4294967295 → n + 1 ≡ raised n
