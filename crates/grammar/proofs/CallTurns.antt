@@ -3,6 +3,7 @@ use mathlib.Core.Path.{_≡_, refl, sym, ap, _∙_}
 use mathlib.Core.Bool.{true, false}
 use mathlib.Core.List.{List, [], _∷_}
 use Prim.Native.Nat.{ℕ, suc}
+use native.Mathlib.Omega.{arith}
 use Rattle.token.specs.Kind.{LeftParen, LeftBrace, Dot, Identifier}
 use Rattle.parser.specs.Tokens.{View}
 use Rattle.parser.specs.declared.State.{State}
@@ -12,8 +13,8 @@ use Rattle.parser.specs.Tables.{Reply, reply, moved, looked, plain, andThen, re
 use Rattle.parser.specs.Nodes.{getRow}
 use Rattle.parser.specs.Programs.{Which, Reader, Prog, give, _>>=_, node, require, run}
 use Rattle.parser.specs.Grammar.{property, finishCall, access, callFrom}
-use Rattle.pieces.specs.Pieces.{get}
-use Rattle.pieces.proofs.NextKind.{Next, Row, picked, by-kind, by-none}
+use Rattle.pieces.specs.Pieces.{get, placeIn, suffixes}
+use Rattle.pieces.proofs.NextKind.{Next, Row, picked, by-kind, by-none, of-none}
 use Rattle.pieces.proofs.Then.{then-then, then-same}
 
 module _ (T : View) (low : Which → Reader) (f : ℕ) (e : Found) (p : State) (E N : List ℕ) (kind j : ℕ) (n : Next T (p .current) kind j) where
@@ -51,3 +52,6 @@ module _ (T : View) (low : Which → Reader) (f : ℕ) (e : Found) (p : State) (
   pub call-end : (kind ≡ LeftParen → ⊥) → (kind ≡ Dot → ⊥) → (kind ≡ LeftBrace → ⊥) → run T low (callFrom T (suc f) e) p E N ≡ reply (looked p 3) (Node e) E N
   unfolding run callFrom
   call-end a b c = by-none T low (give e) p E N kind j n rows (refl, (refl, (refl, tt))) (a, (b, (c, tt)))
+
+  pub call-else : (i : ℕ) → i ≡ placeIn 1 suffixes kind → i ≡ 0 → run T low (callFrom T (suc f) e) p E N ≡ reply (looked p 3) (Node e) E N
+  call-else i e h = let z = of-none suffixes 1 kind (omega arith) (sym e ∙ h) in call-end (z .0) (z .1 .0) (z .1 .1 .0)

@@ -2,13 +2,13 @@
 ghost use mathlib.Core.Path.{_≡_};
 ghost use Prim.Native.Nat.{_-_};
 ghost use Rattle.parser.specs.Tokens.{indexed};
-ghost use Rattle.parser.specs.Tables.{reply};
+ghost use Rattle.parser.specs.Tables.{reply, andThen};
 ghost use Rattle.parser.specs.Programs.{Declaration, Assignment};
 ghost use Rattle.parser.specs.Grammar as specs;
 ghost use Rattle.parser.specs.Grammar.{fuel, fnStmt, fnExpr, methodsFrom, letStmt, forLoop, enhancedFor, tryCatch, ifStmt, elifsFrom, whileStmt, dictElementsFrom, openSlice, levels, lower};
 ghost use Rattle.pieces.specs.Pieces as pieces;
 ghost use Rattle.pieces.specs.Pieces.{runAt, endClass};
-ghost use Rattle.operators.specs.Operators.{binaryAt};
+ghost use Rattle.operators.specs.Operators.{behindFirst};
 use operators::Turn;
 use parser::Found;
 use parser::Got;
@@ -1189,6 +1189,7 @@ fn primary(
     pieces::fatal(tokens, errors, s.looked(1), 28, at)
 }
 
+// Most expressions end with their `primary`; those leave before the loop.
 fn call(
     tokens: &[u32],
     errors: &mut [u32],
@@ -1202,10 +1203,16 @@ fn call(
     let g = primary(tokens, errors, nodes, index, p, levels);
     let k = g.got;
     let Got::Node(first) = k else {
-        return g;
+        return pieces::passed(g);
     };
+    let u = g.p;
+    let at = u.current;
+    let coming = parser::peek(tokens, index, at);
+    if pieces::suffix_place(coming.kind) == 0 {
+        return pieces::found(u.looked(3), first);
+    }
     let mut e = first;
-    let mut q = g.p;
+    let mut q = u;
     loop {
         let at = q.current;
         let coming = parser::peek(tokens, index, at);
@@ -1224,7 +1231,7 @@ fn call(
             let h = pieces::finish_call(tokens, errors, nodes, index, args, e.node);
             let kh = h.got;
             let Got::Node(n) = kh else {
-                return h;
+                return pieces::passed(h);
             };
             e = n;
             q = h.p;
@@ -1232,7 +1239,7 @@ fn call(
             let h = pieces::get(tokens, errors, nodes, index, q.at_token(j, 2), e.node);
             let kh = h.got;
             let Got::Node(n) = kh else {
-                return h;
+                return pieces::passed(h);
             };
             e = n;
             q = h.p;
@@ -1240,7 +1247,7 @@ fn call(
             let h = access(tokens, errors, nodes, index, q.at_token(j, 3), levels, e, j);
             let kh = h.got;
             let Got::Node(n) = kh else {
-                return h;
+                return pieces::passed(h);
             };
             e = n;
             q = h.p;
@@ -1273,7 +1280,7 @@ fn unary(
         let g = unary(tokens, errors, nodes, index, q, levels - 1);
         let k = g.got;
         let Got::Node(e) = k else {
-            return g;
+            return pieces::passed(g);
         };
         let s = g.p;
         return parser::make(nodes, s, pieces::row(Node::UNARY, j, 0, 0, e.node, 0, 0, 0));
@@ -1281,25 +1288,24 @@ fn unary(
     call(tokens, errors, nodes, index, p.looked(2), levels)
 }
 
-// `or` to `power`, without the loosest so many levels: the nested loops as one, from the tightest level to the loosest.
+// `or` to `power` behind their first operand, without the loosest so many levels: the nested loops as one, from the tightest level to the loosest.
 fn binary(
     tokens: &[u32],
     errors: &mut [u32],
     nodes: &mut [u32],
     index: &[u32],
-    p: State,
+    operand: Out,
     levels: u32,
     looser: u32,
 ) -> Out
-    ensures { λ r. ⌜ reply (r .p) (r .got) (now (errors .exit)) (now (nodes .exit)) ≡ runAt (indexed (now (tokens .entry)) (now (index .entry))) levels (binaryAt (indexed (now (tokens .entry)) (now (index .entry))) looser) p (now (errors .entry)) (now (nodes .entry)) ⌝ }
+    ensures { λ r. ⌜ (reply (r .p) (r .got) (now (errors .exit)) (now (nodes .exit)) ≡ andThen (reply (operand .p) (operand .got) (now (errors .entry)) (now (nodes .entry))) λ g q E N. runAt (indexed (now (tokens .entry)) (now (index .entry))) levels (behindFirst (indexed (now (tokens .entry)) (now (index .entry))) looser g) q E N) ⌝ }
 {
-    let g = unary(tokens, errors, nodes, index, p, levels);
-    let k = g.got;
+    let k = operand.got;
     let Got::Node(first) = k else {
-        return g;
+        return pieces::passed(operand);
     };
     let mut left = first;
-    let mut s = g.p;
+    let mut s = operand.p;
     let mut r: u32 = 7;
     loop {
         let at = s.current;
@@ -1309,10 +1315,11 @@ fn binary(
         let Turn::Takes(rank, j) = turn else {
             return pieces::found(s.looked(n), left);
         };
-        let h = binary(tokens, errors, nodes, index, s.at_token(j, n), levels, rank);
+        let g = unary(tokens, errors, nodes, index, s.at_token(j, n), levels);
+        let h = binary(tokens, errors, nodes, index, g, levels, rank);
         let kh = h.got;
         let Got::Node(right) = kh else {
-            return h;
+            return pieces::passed(h);
         };
         let q = h.p;
         let m = parser::make(
@@ -1322,7 +1329,7 @@ fn binary(
         );
         let km = m.got;
         let Got::Node(n) = km else {
-            return m;
+            return pieces::passed(m);
         };
         left = n;
         s = m.p;
@@ -1344,10 +1351,11 @@ fn assignment(
     if levels == 0 {
         return parser::stopped(p, Outcome::TOO_DEEP);
     }
-    let g = binary(tokens, errors, nodes, index, p, levels - 1, 0);
+    let first = unary(tokens, errors, nodes, index, p, levels - 1);
+    let g = binary(tokens, errors, nodes, index, first, levels - 1, 0);
     let k = g.got;
     let Got::Node(left) = k else {
-        return g;
+        return pieces::passed(g);
     };
     let q = g.p;
     let at = q.current;
@@ -1360,7 +1368,7 @@ fn assignment(
     let h = assignment(tokens, errors, nodes, index, q.at_token(i, 1), levels - 1);
     let k = h.got;
     let Got::Node(value) = k else {
-        return h;
+        return pieces::passed(h);
     };
     let s = h.p;
     pieces::assigned(tokens, errors, nodes, s, left, value.node, i)

@@ -8,7 +8,7 @@ use native.Mathlib.Omega.{arith}
 use lib.Dec.{eqb, leb, ltb}
 use lib.ListN.{length, drop}
 use lib.Seq.{drop-nil}
-use borrow.Author.Tests.{eqb-true, eqb-false, ltb-true, ltb-false, leb-true, leb-false}
+use borrow.Author.Tests.{eqb-true, eqb-false, ltb-true, ltb-false, leb-true, leb-false, lt-ltb, le-ltb, le-leb, lt-leb}
 use Rattle.records.specs.declared.Node as rows
 use Rattle.parser.specs.declared.State.{State}
 use Rattle.parser.specs.declared.Found.{Found}
@@ -23,7 +23,7 @@ use Rattle.pieces.specs.Pieces.{among, placeIn}
 use Rattle.operators.specs.declared.Tried.{Tried}
 use Rattle.operators.specs.declared.Turn.{Turn}
 use Rattle.operators.specs.declared.Turn.the-variants.{Over, Takes}
-use Rattle.operators.specs.Operators.{rankIn, binaryAt, testsOf, behindIn, turnOf, turnAt}
+use Rattle.operators.specs.Operators.{rankIn, binaryAt, onward, behindFirst, testsOf, behindIn, turnOf, turnAt}
 use Rattle.parser.proofs.Write.{looked-more, looked-none}
 use Rattle.progress.proofs.Moves.{never}
 use Rattle.pieces.proofs.Then.{then-then, then-give, then-same}
@@ -46,23 +46,25 @@ level-drop ls zero b = let z : b ≡ 0 + b = omega arith in ap (levelAt ls) z
 level-drop [] (suc a) b = refl
 level-drop (l ∷ ls) (suc a) b = level-drop ls a b ∙ ap (levelAt (l ∷ ls)) (more a b)
 
--- what is known of an operator of level n, the loosest 0: its rank is the level's; it is no Newline and no EOF; and the tests up to it in its level, with those behind
--- it, are all of the levels up to its own
+-- what is known of an operator of level n, the loosest 0: its rank is the level's; it is no Newline and no EOF; the tests up to it in its level, with those behind
+-- it, are all of the levels up to its own; and those behind it are at least all of the looser levels, and fewer than with its own
 record Ranked (n k : ℕ) : Type 0 where
   level : rankIn 1 levels k ≡ suc n
   line : eqb k 1 ≡ false
   some : ltb 0 k ≡ true
   tried : behindIn 0 levels k + placeIn 1 (levelAt levels n .operators) k ≡ testsOf levels (suc n)
+  low : leb (testsOf levels n) (behindIn 0 levels k) ≡ true
+  high : ltb (behindIn 0 levels k) (testsOf levels (suc n)) ≡ true
 
 ranked : (n : ℕ) → n < 7 → Each (Ranked n) (levelAt levels n .operators)
 unfolding rankIn among placeIn testsOf behindIn
-ranked zero h = (record { level = refl; line = refl; some = refl; tried = refl }, tt)
-ranked (suc zero) h = (record { level = refl; line = refl; some = refl; tried = refl }, tt)
-ranked (suc (suc zero)) h = (record { level = refl; line = refl; some = refl; tried = refl }, (record { level = refl; line = refl; some = refl; tried = refl }, tt))
-ranked (suc (suc (suc zero))) h = (record { level = refl; line = refl; some = refl; tried = refl }, (record { level = refl; line = refl; some = refl; tried = refl }, (record { level = refl; line = refl; some = refl; tried = refl }, (record { level = refl; line = refl; some = refl; tried = refl }, tt))))
-ranked (suc (suc (suc (suc zero)))) h = (record { level = refl; line = refl; some = refl; tried = refl }, (record { level = refl; line = refl; some = refl; tried = refl }, tt))
-ranked (suc (suc (suc (suc (suc zero))))) h = (record { level = refl; line = refl; some = refl; tried = refl }, (record { level = refl; line = refl; some = refl; tried = refl }, (record { level = refl; line = refl; some = refl; tried = refl }, tt)))
-ranked (suc (suc (suc (suc (suc (suc zero)))))) h = (record { level = refl; line = refl; some = refl; tried = refl }, tt)
+ranked zero h = (record { level = refl; line = refl; some = refl; tried = refl; low = refl; high = refl }, tt)
+ranked (suc zero) h = (record { level = refl; line = refl; some = refl; tried = refl; low = refl; high = refl }, tt)
+ranked (suc (suc zero)) h = (record { level = refl; line = refl; some = refl; tried = refl; low = refl; high = refl }, (record { level = refl; line = refl; some = refl; tried = refl; low = refl; high = refl }, tt))
+ranked (suc (suc (suc zero))) h = (record { level = refl; line = refl; some = refl; tried = refl; low = refl; high = refl }, (record { level = refl; line = refl; some = refl; tried = refl; low = refl; high = refl }, (record { level = refl; line = refl; some = refl; tried = refl; low = refl; high = refl }, (record { level = refl; line = refl; some = refl; tried = refl; low = refl; high = refl }, tt))))
+ranked (suc (suc (suc (suc zero)))) h = (record { level = refl; line = refl; some = refl; tried = refl; low = refl; high = refl }, (record { level = refl; line = refl; some = refl; tried = refl; low = refl; high = refl }, tt))
+ranked (suc (suc (suc (suc (suc zero))))) h = (record { level = refl; line = refl; some = refl; tried = refl; low = refl; high = refl }, (record { level = refl; line = refl; some = refl; tried = refl; low = refl; high = refl }, (record { level = refl; line = refl; some = refl; tried = refl; low = refl; high = refl }, tt)))
+ranked (suc (suc (suc (suc (suc (suc zero)))))) h = (record { level = refl; line = refl; some = refl; tried = refl; low = refl; high = refl }, tt)
 ranked (suc (suc (suc (suc (suc (suc (suc n))))))) h = absurd (omega arith)
 
 -- a level's tests join those of the looser ones
@@ -76,6 +78,29 @@ tests-more (suc (suc (suc (suc zero)))) h = refl
 tests-more (suc (suc (suc (suc (suc zero))))) h = refl
 tests-more (suc (suc (suc (suc (suc (suc zero)))))) h = refl
 tests-more (suc (suc (suc (suc (suc (suc (suc n))))))) h = absurd (omega arith)
+
+-- with tighter levels there are no fewer tests
+tests-on : (ls : List Level) (m n : ℕ) → testsOf ls m ≤ testsOf ls (m + n)
+unfolding testsOf
+tests-on ls zero n = omega arith
+tests-on [] (suc m) n = omega arith
+tests-on (l ∷ ls) (suc m) n =
+    let h = tests-on ls m n in
+    let e = ap (testsOf (l ∷ ls)) (more m n) in
+    omega (arith, h, e)
+
+-- and from seven levels on all of them
+pub tests-all : (n : ℕ) → (n ≡ 0 → ⊥) → (n ≡ 1 → ⊥) → (n ≡ 2 → ⊥) → (n ≡ 3 → ⊥) → (n ≡ 4 → ⊥) → (n ≡ 5 → ⊥) → (n ≡ 6 → ⊥) → 14 ≡ testsOf levels n
+unfolding testsOf
+tests-all zero h0 h1 h2 h3 h4 h5 h6 = absurd (h0 refl)
+tests-all (suc zero) h0 h1 h2 h3 h4 h5 h6 = absurd (h1 refl)
+tests-all (suc (suc zero)) h0 h1 h2 h3 h4 h5 h6 = absurd (h2 refl)
+tests-all (suc (suc (suc zero))) h0 h1 h2 h3 h4 h5 h6 = absurd (h3 refl)
+tests-all (suc (suc (suc (suc zero)))) h0 h1 h2 h3 h4 h5 h6 = absurd (h4 refl)
+tests-all (suc (suc (suc (suc (suc zero))))) h0 h1 h2 h3 h4 h5 h6 = absurd (h5 refl)
+tests-all (suc (suc (suc (suc (suc (suc zero)))))) h0 h1 h2 h3 h4 h5 h6 = absurd (h6 refl)
+tests-all (suc (suc (suc (suc (suc (suc (suc zero))))))) h0 h1 h2 h3 h4 h5 h6 = refl
+tests-all (suc (suc (suc (suc (suc (suc (suc (suc n)))))))) h0 h1 h2 h3 h4 h5 h6 = refl
 
 -- a rank is 0 or one of the levels from the first on
 rank-from : (ls : List Level) (m k kind : ℕ) → rankIn (suc m) ls kind ≡ suc k → m ≤ k
@@ -152,20 +177,128 @@ operator-past : (T : View) (at kind j r : ℕ) → Next T at kind j → 0 < r �
 operator-past T at kind j r x a b e = let k = ranked-kind kind r a b e in next-past T at kind j kind x refl (k .line) (k .some)
 
 -- ---- what a turn does
--- by what the code's tests say, and what `tests_of`, `behind_of` and `without` give
-module _ (looser tightest rank behind past all looks : ℕ) (o : all ≡ testsOf levels tightest) where
-  pub over : (closed : ℕ) → closed ≡ testsOf levels looser → ltb looser rank && leb rank tightest ≡ false → looks ≡ all - closed → _≡_ {A = Tried} (record { turn = Over; looks = looks }) (turnOf looser tightest rank behind past)
-  unfolding turnOf
-  over closed c t l = rw (t, turnOf) (ap (λ (n : ℕ). record { turn = Over; looks = n }) (l ∙ ap (λ (n : ℕ). n - closed) o ∙ ap (λ (n : ℕ). testsOf levels tightest - n) c))
+-- no rank is above the last level's
+rank-most : (ls : List Level) (m kind : ℕ) → rankIn (suc m) ls kind ≤ m + length ls
+unfolding rankIn
+rank-most [] m kind = omega arith
+rank-most (l ∷ ls) m kind = go (among (l .operators) kind) (rank-most ls (suc m) kind)
+  where
+    go : (b : Bool) → rankIn (suc (suc m)) ls kind ≤ suc m + length ls → elim b [ true ↦ suc m | false ↦ rankIn (suc (suc m)) ls kind ] ≤ m + length (l ∷ ls)
+    go true h = omega arith
+    go false h = omega (arith, h)
 
-  pub takes : (n : ℕ) → n ≡ behind → ltb looser rank && leb rank tightest ≡ true → looks ≡ all - n → _≡_ {A = Tried} (record { turn = Takes rank past; looks = looks }) (turnOf looser tightest rank behind past)
-  unfolding turnOf
-  takes n c t l = rw (t, turnOf) (ap (λ (n : ℕ). record { turn = Takes rank past; looks = n }) (l ∙ ap (λ (m : ℕ). m - n) o ∙ ap (λ (n : ℕ). testsOf levels tightest - n) c))
+-- a kind of no level has all tests behind it
+behind-all : (ls : List Level) (m n kind : ℕ) → rankIn (suc m) ls kind ≡ 0 → behindIn n ls kind ≡ n + testsOf ls (length ls)
+unfolding rankIn behindIn testsOf
+behind-all [] m n kind e = omega arith
+behind-all (l ∷ ls) m n kind e = go (among (l .operators) kind) e (behind-all ls (suc m) (n + length (l .operators)) kind)
+  where
+    go : (b : Bool) → _≡_ {A = ℕ} (elim b [ true ↦ suc m | false ↦ rankIn (suc (suc m)) ls kind ]) 0 → (rankIn (suc (suc m)) ls kind ≡ 0 → behindIn (n + length (l .operators)) ls kind ≡ n + length (l .operators) + testsOf ls (length ls)) →
+        _≡_ {A = ℕ} (elim b [ true ↦ n + length (l .operators) - placeIn 1 (l .operators) kind | false ↦ behindIn (n + length (l .operators)) ls kind ]) (n + (length (l .operators) + testsOf ls (length ls)))
+    go true e f = absurd (omega arith)
+    go false e f = let h = f e in omega (arith, h)
 
--- by what `peek` and `rank_of` give
-pub turn-by : (T : View) (at looser tightest : ℕ) (c : Coming) (rank : ℕ) → c ≡ peekAt T at → rank ≡ rankIn 1 levels (c .kind) → turnOf looser tightest rank (behindIn 0 levels (c .kind)) (c .past) ≡ turnAt T at looser tightest
-unfolding turnAt
-turn-by T at looser tightest c rank e k = ap (λ (r : ℕ). turnOf looser tightest r (behindIn 0 levels (c .kind)) (c .past)) k ∙ ap (λ (c : Coming). turnOf looser tightest (rankIn 1 levels (c .kind)) (behindIn 0 levels (c .kind)) (c .past)) e
+-- the levels up to a tighter one have no fewer tests
+tests-grow : (m n : ℕ) → m ≤ n → testsOf levels m ≤ testsOf levels n
+tests-grow m n h =
+    let z : m + (n - m) ≡ n = omega arith in
+    let t = tests-on levels m (n - m) in
+    let e = ap (testsOf levels) z in
+    omega (arith, t, e)
+
+-- and none more than all, of which there are so many
+tests-sum : testsOf levels (length levels) ≡ 14
+unfolding testsOf
+tests-sum = refl
+
+tests-most : (n : ℕ) → testsOf levels n ≤ 14
+tests-most n =
+    let t = tests-grow n (n + 7) (omega arith) in
+    let e = tests-all (n + 7) (λ e. absurd (omega arith)) (λ e. absurd (omega arith)) (λ e. absurd (omega arith)) (λ e. absurd (omega arith)) (λ e. absurd (omega arith)) (λ e. absurd (omega arith)) (λ e. absurd (omega arith)) in
+    omega (arith, t, e)
+
+module _ (kind : ℕ) where
+  -- an operator of level n is tighter than `looser` where the tests behind it are at least those up to there
+  above : (n looser : ℕ) → Ranked n kind → leb (testsOf levels looser) (behindIn 0 levels kind) ≡ ltb looser (suc n)
+  above n looser k = ⊎-elim tighter not-tighter (lt-or-le looser (suc n))
+    where
+      tighter : looser < suc n → leb (testsOf levels looser) (behindIn 0 levels kind) ≡ ltb looser (suc n)
+      tighter h =
+          let t = tests-grow looser n (omega arith) in
+          let b = leb-true (testsOf levels n) (behindIn 0 levels kind) (k .low) in
+          le-leb (testsOf levels looser) (behindIn 0 levels kind) (omega (arith, t, b)) ∙ sym (lt-ltb _ _ h)
+
+      not-tighter : suc n ≤ looser → leb (testsOf levels looser) (behindIn 0 levels kind) ≡ ltb looser (suc n)
+      not-tighter h =
+          let t = tests-grow (suc n) looser h in
+          let b = ltb-true (behindIn 0 levels kind) (testsOf levels (suc n)) (k .high) in
+          lt-leb (testsOf levels looser) (behindIn 0 levels kind) (omega (arith, t, b)) ∙ sym (le-ltb _ _ h)
+
+  -- and at most as tight as `tightest` where they are fewer than those up to there
+  within : (n tightest : ℕ) → Ranked n kind → ltb (behindIn 0 levels kind) (testsOf levels tightest) ≡ leb (suc n) tightest
+  within n tightest k = ⊎-elim looser-one not-looser (lt-or-le tightest (suc n))
+    where
+      looser-one : tightest < suc n → ltb (behindIn 0 levels kind) (testsOf levels tightest) ≡ leb (suc n) tightest
+      looser-one h =
+          let t = tests-grow tightest n (omega arith) in
+          let b = leb-true (testsOf levels n) (behindIn 0 levels kind) (k .low) in
+          le-ltb (behindIn 0 levels kind) (testsOf levels tightest) (omega (arith, t, b)) ∙ sym (lt-leb _ _ h)
+
+      not-looser : suc n ≤ tightest → ltb (behindIn 0 levels kind) (testsOf levels tightest) ≡ leb (suc n) tightest
+      not-looser h =
+          let t = tests-grow (suc n) tightest h in
+          let b = ltb-true (behindIn 0 levels kind) (testsOf levels (suc n)) (k .high) in
+          lt-ltb (behindIn 0 levels kind) (testsOf levels tightest) (omega (arith, t, b)) ∙ sym (le-leb _ _ h)
+
+  -- so the code's test is the definition's
+  between : (looser tightest : ℕ) → leb (testsOf levels looser) (behindIn 0 levels kind) && ltb (behindIn 0 levels kind) (testsOf levels tightest) ≡ ltb looser (rankIn 1 levels kind) && leb (rankIn 1 levels kind) tightest
+  between looser tightest = go (rankIn 1 levels kind) refl
+    where
+      none : (a b : Bool) → b ≡ false → a && b ≡ false
+      none true b e = e
+      none false b e = refl
+
+      go : (r : ℕ) → rankIn 1 levels kind ≡ r → leb (testsOf levels looser) (behindIn 0 levels kind) && ltb (behindIn 0 levels kind) (testsOf levels tightest) ≡ ltb looser r && leb r tightest
+      go zero e =
+          let b = behind-all levels 0 0 kind e in
+          let t = tests-most tightest in
+          none (leb (testsOf levels looser) (behindIn 0 levels kind)) (ltb (behindIn 0 levels kind) (testsOf levels tightest)) (le-ltb (behindIn 0 levels kind) (testsOf levels tightest) (omega (arith, b, t, tests-sum))) ∙ sym (ap (λ (a : Bool). a && leb 0 tightest) (le-ltb looser 0 (omega arith)))
+      go (suc n) e =
+          let m = rank-most levels 0 kind in
+          let z : suc n ≡ suc (0 + n) = omega arith in
+          let k = of-each (Ranked n) (levelAt levels n .operators) (ranked n (omega (arith, m, e))) kind (ranked-in levels 0 n kind (e ∙ z)) in
+          ap (λ (a : Bool). a && ltb (behindIn 0 levels kind) (testsOf levels tightest)) (above n looser k) ∙ ap (λ (b : Bool). ltb looser (suc n) && b) (within n tightest k)
+
+-- a turn by what its test says
+turn-takes : (looser tightest rank behind past : ℕ) → ltb looser rank && leb rank tightest ≡ true → record { turn = Takes rank past; looks = testsOf levels tightest - behind } ≡ turnOf looser tightest rank behind past
+unfolding turnOf
+turn-takes looser tightest rank behind past t = rw (t, turnOf)
+
+turn-over : (looser tightest rank behind past : ℕ) → ltb looser rank && leb rank tightest ≡ false → record { turn = Over; looks = testsOf levels tightest - testsOf levels looser } ≡ turnOf looser tightest rank behind past
+unfolding turnOf
+turn-over looser tightest rank behind past t = rw (t, turnOf)
+
+-- by what `peek`, `tests_of` and `behind_of` give
+module _ (T : View) (at looser tightest : ℕ) (c : Coming) (e : c ≡ peekAt T at) (all closed behind : ℕ) (o : all ≡ testsOf levels tightest) (l : closed ≡ testsOf levels looser) (b : behind ≡ behindIn 0 levels (c .kind)) where
+  test : leb closed behind && ltb behind all ≡ ltb looser (rankIn 1 levels (c .kind)) && leb (rankIn 1 levels (c .kind)) tightest
+  test = ap (λ (n : ℕ). leb n behind && ltb behind all) l ∙ ap (λ (n : ℕ). leb (testsOf levels looser) n && ltb n all) b ∙ ap (λ (n : ℕ). leb (testsOf levels looser) (behindIn 0 levels (c .kind)) && ltb (behindIn 0 levels (c .kind)) n) o ∙ between (c .kind) looser tightest
+
+  turn-by : turnOf looser tightest (rankIn 1 levels (c .kind)) (behindIn 0 levels (c .kind)) (c .past) ≡ turnAt T at looser tightest
+  unfolding turnAt
+  turn-by = ap (λ (c : Coming). turnOf looser tightest (rankIn 1 levels (c .kind)) (behindIn 0 levels (c .kind)) (c .past)) e
+
+  pub takes : (rank looks : ℕ) → rank ≡ rankIn 1 levels (c .kind) → looks ≡ all - behind → leb closed behind && ltb behind all ≡ true → _≡_ {A = Tried} (record { turn = Takes rank (c .past); looks = looks }) (turnAt T at looser tightest)
+  takes rank looks k n t =
+      ap (λ (r : ℕ). record { turn = Takes r (c .past); looks = looks }) k
+      ∙ ap (λ (n : ℕ). record { turn = Takes (rankIn 1 levels (c .kind)) (c .past); looks = n }) (n ∙ ap (λ (n : ℕ). n - behind) o ∙ ap (λ (n : ℕ). testsOf levels tightest - n) b)
+      ∙ turn-takes looser tightest (rankIn 1 levels (c .kind)) (behindIn 0 levels (c .kind)) (c .past) (sym test ∙ t)
+      ∙ turn-by
+
+  pub over : (looks : ℕ) → looks ≡ all - closed → leb closed behind && ltb behind all ≡ false → _≡_ {A = Tried} (record { turn = Over; looks = looks }) (turnAt T at looser tightest)
+  over looks n t =
+      ap (λ (n : ℕ). record { turn = Over; looks = n }) (n ∙ ap (λ (n : ℕ). n - closed) o ∙ ap (λ (n : ℕ). testsOf levels tightest - n) l)
+      ∙ turn-over looser tightest (rankIn 1 levels (c .kind)) (behindIn 0 levels (c .kind)) (c .past) (sym test ∙ t)
+      ∙ turn-by
 
 -- an operator that is taken is of a level between, and is passed
 pub record Taken (T : View) (at looser tightest rank past : ℕ) : Type 0 where
@@ -227,13 +360,6 @@ operation-at (suc (suc (suc (suc (suc (suc zero)))))) h left operator right = re
 operation-at (suc (suc (suc (suc (suc (suc (suc n))))))) h left operator right = absurd (omega arith)
 
 -- ---- the nested loops as one
--- the loops of the first n levels of a list, the tightest of them first, which has so much fuel left
-unfoldable pub onward : View → ℕ → List Level → ℕ → Found → Prog
-onward T f ls zero g = give g
-onward T f [] (suc n) g = give g
-onward T f (l ∷ ls) (suc zero) g = binaryFrom T l (binary T ls) f g
-onward T f (l ∷ ls) (suc (suc n)) g = onward T f ls (suc n) g >>= λ h. binaryFrom T l (binary T ls) (fuel T) h
-
 module _ (T : View) (low : Which → Reader) where
   -- before the first operator
   onward-all : (ls : List Level) (p : State) (E N : List ℕ) → run T low (binary T ls) p E N ≡ andThen (run T low (unary T) p E N) λ g q E N. run T low (onward T (fuel T) ls (length ls) g) q E N
@@ -290,36 +416,13 @@ length-levels (suc (suc (suc (suc (suc zero))))) = refl
 length-levels (suc (suc (suc (suc (suc (suc zero)))))) = refl
 length-levels (suc (suc (suc (suc (suc (suc (suc a))))))) = ap length (drop-nil a) ∙ omega arith
 
--- with tighter levels there are no fewer tests
-tests-on : (ls : List Level) (m n : ℕ) → testsOf ls m ≤ testsOf ls (m + n)
-unfolding testsOf
-tests-on ls zero n = omega arith
-tests-on [] (suc m) n = omega arith
-tests-on (l ∷ ls) (suc m) n =
-    let h = tests-on ls m n in
-    let e = ap (testsOf (l ∷ ls)) (more m n) in
-    omega (arith, h, e)
-
--- and from seven levels on all of them
-pub tests-all : (n : ℕ) → (n ≡ 0 → ⊥) → (n ≡ 1 → ⊥) → (n ≡ 2 → ⊥) → (n ≡ 3 → ⊥) → (n ≡ 4 → ⊥) → (n ≡ 5 → ⊥) → (n ≡ 6 → ⊥) → 14 ≡ testsOf levels n
-unfolding testsOf
-tests-all zero h0 h1 h2 h3 h4 h5 h6 = absurd (h0 refl)
-tests-all (suc zero) h0 h1 h2 h3 h4 h5 h6 = absurd (h1 refl)
-tests-all (suc (suc zero)) h0 h1 h2 h3 h4 h5 h6 = absurd (h2 refl)
-tests-all (suc (suc (suc zero))) h0 h1 h2 h3 h4 h5 h6 = absurd (h3 refl)
-tests-all (suc (suc (suc (suc zero)))) h0 h1 h2 h3 h4 h5 h6 = absurd (h4 refl)
-tests-all (suc (suc (suc (suc (suc zero))))) h0 h1 h2 h3 h4 h5 h6 = absurd (h5 refl)
-tests-all (suc (suc (suc (suc (suc (suc zero)))))) h0 h1 h2 h3 h4 h5 h6 = absurd (h6 refl)
-tests-all (suc (suc (suc (suc (suc (suc (suc zero))))))) h0 h1 h2 h3 h4 h5 h6 = refl
-tests-all (suc (suc (suc (suc (suc (suc (suc (suc n)))))))) h0 h1 h2 h3 h4 h5 h6 = refl
-
 drop-drop : (ls : List Level) (a b : ℕ) → drop b (drop a ls) ≡ drop (a + b) ls
 drop-drop ls zero b = let z : 0 + b ≡ b = omega arith in rw (z)
 drop-drop [] (suc a) b = drop-nil b ∙ sym (drop-nil (suc a + b))
 drop-drop (l ∷ ls) (suc a) b = drop-drop ls a b ∙ ap (λ (n : ℕ). drop n (l ∷ ls)) (more a b)
 
 module _ (T : View) (low : Which → Reader) (looser : ℕ) where
-  pub turns-all : (p : State) (E N : List ℕ) → run T low (binaryAt T looser) p E N ≡ andThen (run T low (unary T) p E N) λ g q E N. run T low (onward T (fuel T) (drop looser levels) (7 - looser) g) q E N
+  pub turns-all : (p : State) (E N : List ℕ) → run T low (binaryAt T looser) p E N ≡ andThen (run T low (unary T) p E N) λ g q E N. run T low (behindFirst T looser g) q E N
   turns-all p E N = rw (← length-levels looser) (onward-all T low (drop looser levels) p E N)
 
   turns-none : (f r : ℕ) (g : Found) (p : State) (E N : List ℕ) → r ≤ looser → run T low (onward T f (drop looser levels) (r - looser) g) p E N ≡ reply p (Node g) E N

@@ -5,8 +5,9 @@ use mathlib.Core.List.{List, [], _∷_}
 use lib.Dec.{ltb, leb}
 use lib.ListN.{length, drop}
 use Rattle.parser.specs.Tokens.{View, peekAt}
-use Rattle.parser.specs.Programs.{Prog}
-use Rattle.parser.specs.Grammar.{Level, levels, binary}
+use Rattle.parser.specs.declared.Found.{Found}
+use Rattle.parser.specs.Programs.{Prog, give, _>>=_}
+use Rattle.parser.specs.Grammar.{Level, levels, fuel, binaryFrom, binary}
 use Rattle.pieces.specs.Pieces.{among, placeIn}
 use Rattle.operators.specs.declared.Tried.{Tried}
 use Rattle.operators.specs.declared.Turn.the-variants.{Over, Takes}
@@ -20,6 +21,17 @@ rankIn n (l ∷ ls) kind = elim (among (l .operators) kind) [ true ↦ n | false
 abbrev pub binaryAt : View → ℕ → Prog
 binaryAt T looser = binary T (drop looser levels)
 
+-- behind a first operand: the loops of the first n levels of a list, the tightest of them first, which has so much fuel left
+unfoldable pub onward : View → ℕ → List Level → ℕ → Found → Prog
+onward T f ls zero g = give g
+onward T f [] (suc n) g = give g
+onward T f (l ∷ ls) (suc zero) g = binaryFrom T l (binary T ls) f g
+onward T f (l ∷ ls) (suc (suc n)) g = onward T f ls (suc n) g >>= λ h. binaryFrom T l (binary T ls) (fuel T) h
+
+-- `binaryAt` behind its first operand, before any turn: it has seven levels but for the loosest so many
+abbrev pub behindFirst : View → ℕ → Found → Prog
+behindFirst T looser g = onward T (fuel T) (drop looser levels) (7 - looser) g
+
 -- how many tests the loosest so many of these levels have, one for each operator
 unfoldable pub testsOf : List Level → ℕ → ℕ
 testsOf ls zero = 0
@@ -27,9 +39,9 @@ testsOf [] (suc n) = 0
 testsOf (l ∷ ls) (suc n) = length (l .operators) + testsOf ls n
 
 -- how many of the tests come behind the one that finds an operator of this kind, n of them in levels that are looser than all these: the loops end from the tightest
--- level to the loosest, and a level's operators are tried in their order
+-- level to the loosest, and a level's operators are tried in their order. All of them where none finds it
 unfoldable pub behindIn : ℕ → List Level → ℕ → ℕ
-behindIn n [] kind = 0
+behindIn n [] kind = n
 behindIn n (l ∷ ls) kind = elim (among (l .operators) kind) [ true ↦ n + length (l .operators) - placeIn 1 (l .operators) kind | false ↦ behindIn (n + length (l .operators)) ls kind ]
 
 -- the turn that an operator of level rank makes, behind whose test come so many: the levels up to `looser` are the caller's to read, and the loops of those tighter than

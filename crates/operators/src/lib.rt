@@ -60,7 +60,7 @@ fn tests_of(level: u32) -> u32
     }
 }
 
-// How many of the tests come behind the one that finds this operator, the tightest level's first; 0 for any other kind.
+// How many of the tests come behind the one that finds this operator, the tightest level's first; all of them for any other kind.
 fn behind_of(kind: u32) -> u32
     ensures { λ r. ⌜ r ≡ behindIn 0 levels kind ⌝ }
 {
@@ -79,7 +79,7 @@ fn behind_of(kind: u32) -> u32
         Token::MOD => 11,
         Token::STAR => 10,
         Token::POWER => 13,
-        _ => 0,
+        _ => 14,
     }
 }
 
@@ -93,25 +93,25 @@ fn without(tests: u32, behind: u32) -> u32
     tests - behind
 }
 
-// The turn at a token, where the levels tighter than `looser` are read and the last turn left those up to `tightest` open.
+// The turn at a token, where the levels tighter than `looser` are read and the last turn left those up to `tightest` open. An operator's level is between the two
+// just where so many tests as come behind its own are among theirs.
 pub fn turn_at(tokens: &[u32], index: &[u32], at: u32, looser: u32, tightest: u32) -> Tried
     ensures { λ r. ⌜ r ≡ turnAt (indexed (now (tokens .entry)) (now (index .entry))) at looser tightest ⌝ }
 {
     let coming = parser::peek(tokens, index, at);
     let kind = coming.kind;
-    let rank = rank_of(kind);
     let open = tests_of(tightest);
-    if (looser < rank) & (rank <= tightest) {
-        let behind = behind_of(kind);
+    let closed = tests_of(looser);
+    let behind = behind_of(kind);
+    if (closed <= behind) & (behind < open) {
         return Tried {
-            turn: Turn::Takes(rank, coming.past),
+            turn: Turn::Takes(rank_of(kind), coming.past),
             looks: without(open, behind),
         };
     }
-    let behind = tests_of(looser);
     Tried {
         turn: Turn::Over,
-        looks: without(open, behind),
+        looks: without(open, closed),
     }
 }
 

@@ -8,8 +8,9 @@ use borrow.Author.Tests.{eq-eqb, ne-eqb, ltb-true, ltb-false}
 use lib.Dec.{ltb}
 use Rattle.records.specs.Table.{field, tokenWidth, indexWidth}
 use Rattle.records.proofs.Field.{field-none}
+use Rattle.parser.specs.declared.Coming.{Coming}
 use Rattle.parser.specs.declared.Seen.the-variants.{At, Nothing}
-use Rattle.parser.specs.Tokens.{View, count, kindAt, after, indexed, skipLines, seenIf, checkAt}
+use Rattle.parser.specs.Tokens.{View, count, kindAt, after, indexed, skipLines, peekAt, seenIf, checkAt}
 
 pub after-in : (T : List ℕ) (i : ℕ) → (kindAt T i ≡ 0 → ⊥) → i + 1 ≡ after T i
 unfolding after
@@ -53,6 +54,12 @@ module _ (t x : List ℕ) (i w : ℕ) (k : kindAt t i ≡ 1) (is : w ≡ field i
 
   pub skip-stays : w ≤ i → i ≡ skipLines (indexed t x) i
   skip-stays h = let e : i ≡ i + (w - 1 - i) = omega arith in e ∙ ap (λ (w : ℕ). i + (w - 1 - i)) is ∙ skip-hop (indexed t x) i k
+
+-- what comes at a token that is no Newline, by what the code sees there
+pub peek-here : (T : View) (at kind past : ℕ) → kind ≡ kindAt (T .tokens) at → (kind ≡ 1 → ⊥) → past ≡ after (T .tokens) at → _≡_ {A = Coming} (record { kind = kind; past = past }) (peekAt T at)
+peek-here T at kind past k h n =
+    let s = skip-end T at (λ e. h (k ∙ e)) in
+    ap (λ (i : ℕ). record { kind = i; past = past }) (k ∙ ap (kindAt (T .tokens)) s) ∙ ap (λ (i : ℕ). record { kind = kindAt (T .tokens) (skipLines T at); past = i }) (n ∙ ap (after (T .tokens)) s)
 
 pub check-line : (T : View) (at k : ℕ) → k ≡ 1 → kindAt (T .tokens) at ≡ 1 → At at ≡ checkAt T at k
 unfolding checkAt seenIf

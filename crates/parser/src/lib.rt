@@ -108,10 +108,16 @@ fn skip(tokens: &[u32], index: &[u32], at: u32) -> u32
     at
 }
 
-// What comes past the newlines, for a reader that tests it for many kinds. Only this function and `check` pass newlines.
+// What comes past the newlines, for a reader that tests it for many kinds. Only this function and `check` pass newlines. Both see a token that is no Newline at
+// once, as most are.
 pub fn peek(tokens: &[u32], index: &[u32], at: u32) -> Coming
     ensures { λ r. ⌜ r ≡ peekAt (indexed (now (tokens .entry)) (now (index .entry))) at ⌝ }
 {
+    let here = kind_at(tokens, at);
+    if here != Token::NEWLINE {
+        let past = next(tokens, at);
+        return Coming { kind: here, past };
+    }
     let i = skip(tokens, index, at);
     let kind = kind_at(tokens, i);
     let past = next(tokens, i);
@@ -129,6 +135,13 @@ pub fn check(tokens: &[u32], index: &[u32], at: u32, kind: u32) -> Seen
             Seen::Nothing
         }
     } else {
+        let here = kind_at(tokens, at);
+        if here == kind {
+            return Seen::At(at);
+        }
+        if here != Token::NEWLINE {
+            return Seen::Nothing;
+        }
         let i = skip(tokens, index, at);
         if kind_at(tokens, i) == kind {
             Seen::At(i)

@@ -3,7 +3,7 @@ use Prim.Native.Nat.{ℕ, _+_}
 use mathlib.Core.Bool.{Bool, true, false, _||_}
 use mathlib.Core.List.{List, [], _∷_}
 use lib.Dec.{eqb}
-use Rattle.token.specs.Kind.{RightParen, RightBrace, RightCurlyBrace, Minus, Semicolon, Less, Identifier, Number, String, False, True, Nil, Not}
+use Rattle.token.specs.Kind.{LeftParen, RightParen, LeftBrace, RightBrace, RightCurlyBrace, Dot, Minus, Semicolon, Less, Identifier, Number, String, False, True, Nil, Not}
 use Rattle.records.specs.Messages.{expectedVariableName, expectedRightCurly, expectParenAfterExpression, expectedSemicolon, onlyInsideLoop, expectedEndOfList, expectedEndOfDict, expectedPropertyName, expectParenAfterArguments}
 use Rattle.parser.specs.Tokens.{View}
 use Rattle.parser.specs.declared.Found.{Found}
@@ -93,6 +93,10 @@ literals = Number ∷ String ∷ False ∷ True ∷ Nil ∷ []
 -- the prefix operators, in the order in which `unary` tests for them
 abbrev pub prefixes : List ℕ
 prefixes = Not ∷ Minus ∷ []
+
+-- what goes on with an expression, in the order in which `call` tests for it
+abbrev pub suffixes : List ℕ
+suffixes = LeftParen ∷ Dot ∷ LeftBrace ∷ []
 
 module _ (T : View) where
   -- a function from its parameters on

@@ -10,7 +10,7 @@ ghost use Rattle.parser.specs.Programs.{Which, Reader, run};
 ghost use Rattle.parser.specs.Grammar as specs;
 ghost use Rattle.parser.specs.Grammar.{named, lastOf, formThrough, fuel, namesFrom, closed, superExpr};
 ghost use Rattle.pieces.specs.Pieces as pieces;
-ghost use Rattle.pieces.specs.Pieces.{endClass, placeIn, literals, prefixes};
+ghost use Rattle.pieces.specs.Pieces.{endClass, placeIn, literals, prefixes, suffixes};
 use parser::Form;
 use parser::Found;
 use parser::Got;
@@ -52,13 +52,36 @@ pub fn gives_form(p: State, n: u32, form: Form, access: u32) -> Out
     }
 }
 
+// The same form. A value that is handed on as a whole is read in wider pieces than it was written in, and the processor waits for that; every operand passes
+// here, so its form is taken apart and made anew. So are answers, in `found` and `passed`.
+fn same_form(form: Form) -> Form
+    ensures { λ r. ⌜ r ≡ form ⌝ }
+{
+    match form {
+        Form::Other => Form::Other,
+        Form::Empty => Form::Empty,
+        Form::Name(t) => Form::Name(t),
+        Form::Property(t, o) => Form::Property(t, o),
+    }
+}
+
 // What was found.
 pub fn found(p: State, f: Found) -> Out
     ensures { λ r. ⌜ r ≡ record { p = p; got = Got.Node f } ⌝ }
 {
-    Out {
-        p,
-        got: Got::Node(f),
+    let form = f.form;
+    gives_form(p, f.node, same_form(form), f.access)
+}
+
+// An answer that is passed on: where most readings pass, a stop.
+pub fn passed(g: Out) -> Out
+    ensures { λ r. ⌜ r ≡ g ⌝ }
+{
+    let q = g.p;
+    let k = g.got;
+    match k {
+        Got::Node(f) => found(q, f),
+        Got::Stop(outcome) => parser::stopped(q, outcome),
     }
 }
 
@@ -566,6 +589,18 @@ pub fn prefix_place(kind: u32) -> u32
     match kind {
         Token::NOT => 1,
         Token::MINUS => 2,
+        _ => 0,
+    }
+}
+
+// Which of `call`'s tests finds what goes on with an expression, of this kind; 0 if none does.
+pub fn suffix_place(kind: u32) -> u32
+    ensures { λ r. ⌜ r ≡ placeIn 1 suffixes kind ⌝ }
+{
+    match kind {
+        Token::LEFT_PAREN => 1,
+        Token::DOT => 2,
+        Token::LEFT_BRACE => 3,
         _ => 0,
     }
 }

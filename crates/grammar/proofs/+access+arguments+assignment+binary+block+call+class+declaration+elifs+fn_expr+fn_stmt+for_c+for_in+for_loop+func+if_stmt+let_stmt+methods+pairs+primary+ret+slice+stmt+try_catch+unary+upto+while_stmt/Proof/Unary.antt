@@ -15,6 +15,7 @@ use Rattle.parser.proofs.State.looked.Reads as looked-reads
 use Rattle.parser.proofs.make.Reads as make-reads
 use Rattle.parser.proofs.peek.Reads as peek-reads
 use Rattle.parser.proofs.stopped.Reads as stopped-reads
+use Rattle.pieces.proofs.passed.Reads as passed-reads
 use Rattle.pieces.proofs.prefix_place.Reads as prefix-place-reads
 use Rattle.pieces.proofs.row.Reads as row-reads
 use Rattle.grammar.proofs.+access+arguments+assignment+binary+block+call+class+declaration+elifs+fn_expr+fn_stmt+for_c+for_in+for_loop+func+if_stmt+let_stmt+methods+pairs+primary+ret+slice+stmt+try_catch+unary+upto+while_stmt.Proof.Measures.{unary-at, call-below, unary-below}
@@ -22,7 +23,7 @@ use borrow.Author.Needs.{needs}
 use native.Mathlib.Omega.{arith}
 
 abbrev claims : ℕ → unary-lts.Claims
-claims t = (peek-reads.Asked, peek-reads.Learnt, prefix-place-reads.Asked, prefix-place-reads.Learnt, at-token-reads.Asked, at-token-reads.Learnt, stopped-reads.Asked, stopped-reads.Learnt, unary-below t, unary.Post, row-reads.Asked, row-reads.Learnt, make-reads.Asked, make-reads.Learnt, looked-reads.Asked, looked-reads.Learnt, call-below t, call.Post)
+claims t = (peek-reads.Asked, peek-reads.Learnt, prefix-place-reads.Asked, prefix-place-reads.Learnt, at-token-reads.Asked, at-token-reads.Learnt, stopped-reads.Asked, stopped-reads.Learnt, unary-below t, unary.Post, passed-reads.Asked, passed-reads.Learnt, row-reads.Asked, row-reads.Learnt, make-reads.Asked, make-reads.Learnt, looked-reads.Asked, looked-reads.Learnt, call-below t, call.Post)
 
 peek-requires : (t : ℕ) → unary-lts.Need-peek-requires (claims t) (unary-at t) unary.Post
 peek-requires t c κs = search needs
@@ -56,19 +57,22 @@ enum-known-k t c = search needs
 enum-told : (t : ℕ) → unary-lts.Need-enum-told (claims t) (unary-at t) unary.Post
 enum-told t c = search needs
 
+passed-requires : (t : ℕ) → unary-lts.Need-passed-requires (claims t) (unary-at t) unary.Post
+passed-requires t c κs = search needs
+
 same-length : (t : ℕ) → unary-lts.Need-same-length (claims t) (unary-at t) unary.Post
-same-length t c = c .before .before .before .before .before .before .unary .kept .1 .0
+same-length t c = c .before .before .before .before .before .before .before .unary .kept .1 .0
 
 same-length-2 : (t : ℕ) → unary-lts.Need-same-length-2 (claims t) (unary-at t) unary.Post
-same-length-2 t c = c .before .before .before .before .before .before .unary .kept .1 .1 .0
+same-length-2 t c = c .before .before .before .before .before .before .before .unary .kept .1 .1 .0
 
 returns-2 : (t : ℕ) → unary-lts.Need-returns-2 (claims t) (unary-at t) unary.Post
 unfolding run body
 returns-2 t c =
-    let n = peeked (indexed (c .before .before .before .before .before .before .before .before .before .before .before .before .before .before .before .before .before .before .args .tokens .now) (c .before .before .before .before .before .before .before .before .before .before .before .before .before .before .before .before .before .before .args .index .now)) (c .before .before .before .before .before .before .before .before .before .before .before .before .before .before .before .before .before .before .args .p .current) _ (c .before .before .before .before .before .before .before .before .before .before .before .before .before .peek .ensures) in
-    let h = unary-prefix (indexed (c .before .before .before .before .before .before .before .before .before .before .before .before .before .before .before .before .before .before .args .tokens .now) (c .before .before .before .before .before .before .before .before .before .before .before .before .before .before .before .before .before .before .args .index .now)) (lower (indexed (c .before .before .before .before .before .before .before .before .before .before .before .before .before .before .before .before .before .before .args .tokens .now) (c .before .before .before .before .before .before .before .before .before .before .before .before .before .before .before .before .before .before .args .index .now)) (c .before .before .before .before .before .before .before .before .before .before .before .before .before .before .before .before .before .before .args .levels)) (c .before .before .before .before .before .before .before .before .before .before .before .before .before .before .before .before .before .before .args .p) (c .before .before .before .before .before .before .before .before .before .before .before .before .before .before .before .before .before .before .args .errors .now) (c .before .before .before .before .before .before .before .before .before .before .before .before .before .before .before .before .before .before .args .nodes .now) _ _ n _ (c .before .before .before .before .before .before .before .before .before .before .before .before .prefix-place .ensures) (c .before .before .before .before .before .before .before .before .before .before .before .if1 .taken) in
-    let z = lower-step (indexed (c .before .before .before .before .before .before .before .before .before .before .before .before .before .before .before .before .before .before .args .tokens .now) (c .before .before .before .before .before .before .before .before .before .before .before .before .before .before .before .before .before .before .args .index .now)) (c .before .before .before .before .before .before .before .before .before .before .before .before .before .before .before .before .before .before .args .levels) Operand (c .before .before .before .before .before .before .before .before .before .before .at-token .result) (c .before .before .before .before .before .before .before .before .before .before .before .before .before .before .before .before .before .before .args .errors .now) (c .before .before .before .before .before .before .before .before .before .before .before .before .before .before .before .before .before .before .args .nodes .now) (c .before .before .before .before .before .before .before .before .before .if2 .left) in
-    rw (h, ← c .before .before .before .before .before .before .before .before .before .before .at-token .ensures, z) (rw (← c .before .before .before .before .before .before .unary .ensures, c .enum-told .given .1))
+    let n = peeked (indexed (c .before .before .before .before .before .before .before .before .before .before .before .before .before .before .before .before .before .before .before .args .tokens .now) (c .before .before .before .before .before .before .before .before .before .before .before .before .before .before .before .before .before .before .before .args .index .now)) (c .before .before .before .before .before .before .before .before .before .before .before .before .before .before .before .before .before .before .before .args .p .current) _ (c .before .before .before .before .before .before .before .before .before .before .before .before .before .before .peek .ensures) in
+    let h = unary-prefix (indexed (c .before .before .before .before .before .before .before .before .before .before .before .before .before .before .before .before .before .before .before .args .tokens .now) (c .before .before .before .before .before .before .before .before .before .before .before .before .before .before .before .before .before .before .before .args .index .now)) (lower (indexed (c .before .before .before .before .before .before .before .before .before .before .before .before .before .before .before .before .before .before .before .args .tokens .now) (c .before .before .before .before .before .before .before .before .before .before .before .before .before .before .before .before .before .before .before .args .index .now)) (c .before .before .before .before .before .before .before .before .before .before .before .before .before .before .before .before .before .before .before .args .levels)) (c .before .before .before .before .before .before .before .before .before .before .before .before .before .before .before .before .before .before .before .args .p) (c .before .before .before .before .before .before .before .before .before .before .before .before .before .before .before .before .before .before .before .args .errors .now) (c .before .before .before .before .before .before .before .before .before .before .before .before .before .before .before .before .before .before .before .args .nodes .now) _ _ n _ (c .before .before .before .before .before .before .before .before .before .before .before .before .before .prefix-place .ensures) (c .before .before .before .before .before .before .before .before .before .before .before .before .if1 .taken) in
+    let z = lower-step (indexed (c .before .before .before .before .before .before .before .before .before .before .before .before .before .before .before .before .before .before .before .args .tokens .now) (c .before .before .before .before .before .before .before .before .before .before .before .before .before .before .before .before .before .before .before .args .index .now)) (c .before .before .before .before .before .before .before .before .before .before .before .before .before .before .before .before .before .before .before .args .levels) Operand (c .before .before .before .before .before .before .before .before .before .before .before .at-token .result) (c .before .before .before .before .before .before .before .before .before .before .before .before .before .before .before .before .before .before .before .args .errors .now) (c .before .before .before .before .before .before .before .before .before .before .before .before .before .before .before .before .before .before .before .args .nodes .now) (c .before .before .before .before .before .before .before .before .before .before .if2 .left) in
+    rw (c .passed .ensures, h, ← c .before .before .before .before .before .before .before .before .before .before .before .at-token .ensures) (rw (z, ← c .before .before .before .before .before .before .before .unary .ensures, c .before .enum-told .given .1))
 
 row-requires : (t : ℕ) → unary-lts.Need-row-requires (claims t) (unary-at t) unary.Post
 row-requires t c κs = search needs
@@ -119,6 +123,7 @@ unary-ok t = unary-lts.spec (claims t) (unary-at t) unary.Post
     (unary-requires t)
     (enum-known-k t)
     (enum-told t)
+    (passed-requires t)
     (same-length t)
     (same-length-2 t)
     (returns-2 t)
