@@ -104,8 +104,9 @@ pub fn turn_at(tokens: &[u32], index: &[u32], at: u32, looser: u32, tightest: u3
     let closed = tests_of(looser);
     let behind = behind_of(kind);
     if (closed <= behind) & (behind < open) {
+        let rank = rank_of(kind);
         return Tried {
-            turn: Turn::Takes(rank_of(kind), coming.past),
+            turn: Turn::Takes(rank, coming.past),
             looks: without(open, behind),
         };
     }
