@@ -73,7 +73,7 @@ pub fn found(p: State, f: Found) -> Out
     gives_form(p, f.node, same_form(form), f.access)
 }
 
-// An answer that is passed on: where most readings pass, a stop.
+// An answer that is passed on as it is, by its parts: the stops of the readers that every operand passes.
 pub fn passed(g: Out) -> Out
     ensures { λ r. ⌜ r ≡ g ⌝ }
 {
