@@ -17,7 +17,7 @@ use Rattle.parser.specs.declared.Coming.{Coming}
 use Rattle.parser.specs.Tokens.{View, count, peekAt}
 use Rattle.parser.specs.Tables.{Reply, reply, moved, looked, andThen, pushNode}
 use Rattle.parser.specs.Nodes.{logicalRow, binaryRow}
-use Rattle.parser.specs.Programs.{Which, Reader, Prog, give, _>>=_, look, run}
+use Rattle.parser.specs.Programs.{Which, Reader, Prog, look, run}
 use Rattle.parser.specs.Grammar.{Level, levels, rowIf, operation, fuel, unary, lookMany, binaryFrom, binary}
 use Rattle.pieces.specs.Pieces.{among, placeIn}
 use Rattle.operators.specs.declared.Tried.{Tried}
