@@ -1,7 +1,7 @@
--- The comparison of names in `leave_function` never fails: with the names kept, every program does what it does without them. Assumes nothing.
+-- The comparison of names in `leave_function` never fails: with the names kept, every program, and `parse` as a whole, does what it does without them. Assumes nothing.
 use mathlib.Core.Path.{_≡_, refl, subst, subst⁻¹}
 use mathlib.Core.Bool.{Bool, true, false}
-use mathlib.Core.List.{List, _∷_}
+use mathlib.Core.List.{List, [], _∷_}
 use Prim.Native.Nat.{ℕ, zero, suc, _-_}
 use native.Mathlib.Omega.{arith}
 use borrow.Author.Tests.{eq-eqb}
@@ -16,11 +16,12 @@ use Rattle.parser.specs.declared.Seen.{Seen}
 use Rattle.parser.specs.declared.Seen.the-variants.{At, Nothing}
 use Rattle.parser.specs.declared.Got.the-variants.{Node, Stop}
 use Rattle.parser.specs.Tokens.{View, kindAt, checkAt, matchesAt}
-use Rattle.parser.specs.Tables.{Reply, reply, looped, plain, pushNode, pushError, ifSeen, andThen, consumeAt, requireAt}
-use Rattle.parser.specs.Programs.{Reader, Which, Prog, give, stop, _>>=_, _>>_, look, check, atEnd, previous, node, link, fail, failAt, consume, require, enterLoop, leaveLoop, giveBack, insideLoop, inFunction, down, raised, either, restored, run}
+use Rattle.parser.specs.Tables.{Reply, reply, freshState, looped, plain, pushNode, pushError, ifSeen, andThen, consumeAt, requireAt}
+use Rattle.parser.specs.Programs.{Reader, Which, Declaration, Prog, give, stop, _>>=_, _>>_, look, check, atEnd, previous, node, link, fail, failAt, consume, require, enterLoop, leaveLoop, giveBack, insideLoop, inFunction, down, raised, either, restored, run}
 use Rattle.parser.proofs.Push.{push-nodes, push-errors}
-use Rattle.parsing.specs.Calls.{Name, called, lambda, Call, nameOf, sameName, withLoops, Named, named, unequal, NamedReader, thenNamed, ifNamed, eitherNamed, leave, runNamed, lowerNamed}
-use Rattle.parser.specs.Grammar.{body, lower}
+use Rattle.parsing.specs.Calls.{Name, script, called, lambda, Call, nameOf, sameName, withLoops, Named, named, unequal, NamedReader, thenNamed, ifNamed, eitherNamed, leave, runNamed, lowerNamed, NamedParse, came, unequalNames, topNamed, orStops, eitherParse, leaveScript, statementsNamed, parsedNamed}
+use Rattle.parser.specs.Grammar.{firstOf, body, lower}
+use Rattle.parser.specs.Whole.{Parsed, ends, topLevel, orEnds, ifEnd, statements, parsed}
 
 -- the answer with names, and the answer without: the same, but that the loop count stands on top of the stack; with a node the functions on the stack are those of before
 pub data Agree (cs : List Call) : Named → Reply → Type 0 where
@@ -88,6 +89,7 @@ module _ (c : Call) (cs : List Call) where
 
 -- ---- the name on top is the one that was given
 same-name : (n : Name) → sameName n n ≡ true
+same-name script = refl
 same-name (called a) = eq-eqb a a refl
 same-name (lambda a) = eq-eqb a a refl
 
@@ -136,3 +138,43 @@ agree-equal cs _ _ (stops p o E N ds n) e = let z : _≡_ {A = ℕ} 0 1 = cc in 
 -- the unequal-names branch of `leave_function` is unreachable
 pub never-unequal : (T : View) (l : ℕ) (w : Which) (c : Call) (cs : List Call) (p : State) (E N : List ℕ) → lowerNamed T l w p (c ∷ cs) E N ≡ unequal → ⊥
 never-unequal T l w c cs p E N = agree-equal (c ∷ cs) _ _ (lower-agrees T l w c cs p E N)
+
+-- ---- `parse`
+-- a top-level statement
+top-agrees : (T : View) → Agrees (topNamed T) (topLevel T)
+unfolding topNamed topLevel
+top-agrees T c cs p E N =
+    agree-then c cs _ _ _ _ (lower-agrees T 128 Declaration c cs p E N) λ f c cs q E N.
+    agree-then c cs _ _ _ _ (agree-consume c cs q T 1 4 E N) λ g c cs r E N. nodes r f E N (c .loops)
+
+-- the function that `parse` is in, with so many loops open
+abbrev top : ℕ → List Call
+top n = record { function = script; loops = n } ∷ []
+
+same-or : (first kept m : ℕ) (x : Named) (y : Reply) (j : ℕ → State → List Call → List ℕ → List ℕ → NamedParse) (k : ℕ → State → List ℕ → List ℕ → Parsed) → Agree (top m) x y
+    → ((a : ℕ) (q : State) (n : ℕ) (E N : List ℕ) → j a q (top n) E N ≡ came (k a (looped q n) E N)) → orStops first kept x j ≡ came (orEnds first kept y k)
+same-or first kept m _ _ j k (nodes p f E N n) h = h (f .node) p n E N
+same-or first kept m _ _ j k (stops p o E N ds n) h = refl
+
+same-if : (b : Bool) (a c : Unit {0} → NamedParse) (d e : Unit {0} → Parsed) → a tt ≡ came (d tt) → c tt ≡ came (e tt) → eitherParse b a c ≡ came (ifEnd b d e)
+same-if true a c d e g h = g
+same-if false a c d e g h = h
+
+statements-agree : (f : ℕ) (T : View) (first last : ℕ) (p : State) (n : ℕ) (E N : List ℕ) → statementsNamed f T first last p (top n) E N ≡ came (statements f T first last (looped p n) E N)
+unfolding statementsNamed statements
+statements-agree zero T first last p n E N = refl
+statements-agree (suc f) T first last p n E N =
+    same-if (eqb (kindAt (T .tokens) (p .current)) 0) _ _ _ _ refl
+    (same-or first (p .nodes) n _ _ _ _ (top-agrees T (record { function = script; loops = n }) [] p E N) λ a q n E N. statements-agree f T (firstOf first a) a q n E (linked N last a))
+
+-- with the names kept a parsing comes to what it comes to without them
+pub parse-agrees : (rule : ℕ) (T : View) (errors : ℕ) (E N : List ℕ) → parsedNamed rule T errors E N ≡ came (parsed rule T errors E N)
+unfolding parsedNamed parsed
+parse-agrees rule T errors E N = statements-agree _ T 0 0 (freshState rule errors) 0 E N
+
+came-equal : (x : NamedParse) (r : Parsed) → x ≡ came r → x ≡ unequalNames → ⊥
+came-equal x r e h = let z : _≡_ {A = ℕ} 0 1 = cc in absurd (omega arith)
+
+-- no `leave_function` of a whole parsing meets another name, and neither does its own at the end
+pub parse-never-unequal : (rule : ℕ) (T : View) (errors : ℕ) (E N : List ℕ) → parsedNamed rule T errors E N ≡ unequalNames → ⊥
+parse-never-unequal rule T errors E N = came-equal _ _ (parse-agrees rule T errors E N)

@@ -1,26 +1,30 @@
 -- The call stack of parser.rs with its names, as the Rust keeps it: a second meaning of the same programs. `leave_function` compares the name on top of the stack
--- with the one that `enter_function` was given. That the comparison never fails is proved, so that the meaning in Programs, which keeps only loop counts, says the same.
+-- with the one that `enter_function` was given. That the comparison never fails is proved, so that the meaning in Programs, which keeps only loop counts, says the same. `parse` itself enters a function
+-- with the empty name and leaves it where it reaches EOF.
 use Prim.Native.Nat.{ℕ, zero, suc, _-_}
 use mathlib.Core.Bool.{Bool, true, false}
 use mathlib.Core.List.{List, [], _∷_}
 use lib.Dec.{eqb}
 use lib.ListN.{length}
-use Rattle.token.specs.Kind.{EOF}
+use Rattle.token.specs.Kind.{EOF, Newline}
 use Rattle.rules.specs.Rules.{loopsBehind}
-use Rattle.records.specs.Outcomes.{tooDeep}
+use Rattle.records.specs.Messages.{expectedNewLine}
+use Rattle.records.specs.Outcomes.{ended, outOfFuel, tooDeep}
 use Rattle.records.specs.Table.{linked}
 use Rattle.parser.specs.declared.State.{State}
 use Rattle.parser.specs.declared.Found.{Found}
 use Rattle.parser.specs.declared.Seen.{Seen}
 use Rattle.parser.specs.declared.Seen.the-variants.{At, Nothing}
 use Rattle.parser.specs.declared.Got.the-variants.{Node, Stop}
-use Rattle.parser.specs.Tokens.{View, kindAt, checkAt, matchesAt}
-use Rattle.parser.specs.Tables.{Reply, reply, moved, looked, plain, pushNode, pushError, consumeAt, requireAt}
-use Rattle.parser.specs.Programs.{Which, Prog, give, stop, _>>=_, _>>_, look, check, atEnd, previous, node, link, fail, failAt, consume, require, enterLoop, leaveLoop, giveBack, insideLoop, inFunction, down, raised}
-use Rattle.parser.specs.Grammar.{body}
+use Rattle.parser.specs.Tokens.{View, count, kindAt, checkAt, matchesAt}
+use Rattle.parser.specs.Tables.{Reply, reply, freshState, moved, looked, plain, pushNode, pushError, consumeAt, requireAt}
+use Rattle.parser.specs.Programs.{Which, Declaration, Prog, give, stop, _>>=_, _>>_, look, check, atEnd, previous, node, link, fail, failAt, consume, require, enterLoop, leaveLoop, giveBack, insideLoop, inFunction, down, raised}
+use Rattle.parser.specs.Grammar.{firstOf, body}
+use Rattle.parser.specs.Whole.{Parsed, ends, deepest}
 
--- a function's name: the token of a named one, or `lambda` and the number of functions that are open around it
+-- a function's name: the empty one that `parse` gives, the token of a named function, or `lambda` and the number of functions that are open around it
 pub data Name : Type 0 where
+  script : Name
   called : ℕ → Name
   lambda : ℕ → Name
 
@@ -38,10 +42,15 @@ pickName false token around = called token
 abbrev pub nameOf : ℕ → ℕ → Name
 nameOf token around = pickName (eqb token 0) token around
 
--- two names by the same number are the same; a token's own name and a lambda's are not
+-- two names by the same number are the same; names of different sorts are not
 abbrev pub sameName : Name → Name → Bool
+sameName script script = true
+sameName script (called b) = false
+sameName script (lambda b) = false
+sameName (called a) script = false
 sameName (called a) (called b) = eqb a b
 sameName (called a) (lambda b) = false
+sameName (lambda a) script = false
 sameName (lambda a) (called b) = false
 sameName (lambda a) (lambda b) = eqb a b
 
@@ -115,3 +124,40 @@ runNamed T low (down w) p cs E N = low w p cs E N
 unfoldable pub lowerNamed : View → ℕ → Which → NamedReader
 lowerNamed T zero w p cs E N = named (reply p (Stop tooDeep) E N) cs
 lowerNamed T (suc l) w p cs E N = runNamed T (lowerNamed T l) (body T w) p cs E N
+
+-- ---- `parse`
+-- what it comes to; or a `leave_function` met another name
+pub data NamedParse : Type 0 where
+  came : Parsed → NamedParse
+  unequalNames : NamedParse
+
+-- a top-level statement, with the newline test after it
+unfoldable pub topNamed : View → NamedReader
+topNamed T p cs E N = thenNamed (lowerNamed T deepest Declaration p cs E N) λ f q cs E N. thenNamed (named (consumeAt T Newline expectedNewLine q E N) cs) λ g r cs E N. named (reply r (Node f) E N) cs
+
+-- on with a statement; a stop ends the parsing, and leaves no function
+abbrev pub orStops : ℕ → ℕ → Named → (ℕ → State → List Call → List ℕ → List ℕ → NamedParse) → NamedParse
+orStops first kept (named (reply q (Node f) E N) cs) k = k (f .node) q cs E N
+orStops first kept (named (reply q (Stop o) E N) cs) k = came (ends o first kept q E N)
+orStops first kept unequal k = unequalNames
+
+-- by a test
+abbrev pub eitherParse : Bool → (Unit {0} → NamedParse) → (Unit {0} → NamedParse) → NamedParse
+eitherParse true a b = a tt
+eitherParse false a b = b tt
+
+-- `leave_function("")` after the last statement
+abbrev pub leaveScript : List Call → Parsed → NamedParse
+leaveScript [] r = unequalNames
+leaveScript (c ∷ cs) r = eitherParse (sameName (c .function) script) (λ _. came r) λ _. unequalNames
+
+-- `while !self.is_at_end()`, and what follows it
+unfoldable pub statementsNamed : ℕ → View → ℕ → ℕ → State → List Call → List ℕ → List ℕ → NamedParse
+statementsNamed zero T first last p cs E N = came (ends outOfFuel first (p .nodes) p E N)
+statementsNamed (suc f) T first last p cs E N =
+    eitherParse (eqb (kindAt (T .tokens) (p .current)) EOF) (λ _. leaveScript cs (ends ended first (p .nodes) p E N)) λ _.
+    orStops first (p .nodes) (topNamed T p cs E N) λ n q cs E N. statementsNamed f T (firstOf first n) n q cs E (linked N last n)
+
+-- `enter_function("")`, and all of `parse` after it
+unfoldable pub parsedNamed : ℕ → View → ℕ → List ℕ → List ℕ → NamedParse
+parsedNamed rule T errors E N = statementsNamed (suc (count (T .tokens))) T 0 0 (freshState rule errors) (record { function = script; loops = 0 } ∷ []) E N
