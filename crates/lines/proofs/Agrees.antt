@@ -22,11 +22,15 @@ skip-same T T′ i k h = go (eqb (kindAt (T .tokens) i) Newline) refl
     go true e = sym (skip-hop T i (eqb-true _ _ e)) ∙ ap (λ (d : ℕ). i + d) (h (eqb-true _ _ e)) ∙ skip-hop T′ i (sym k ∙ eqb-true _ _ e)
     go false e = sym (skip-end T i (eqb-false _ _ e)) ∙ skip-end T′ i (λ o. eqb-false _ _ e (k ∙ o))
 
--- where token e is EOF, newlines before it never lead past it
-module _ (t : List ℕ) (e : ℕ) (end : kindAt t e ≡ EOF) where
+-- EOF is no Newline
+pub eof-apart : (t : List ℕ) (e : ℕ) → kindAt t e ≡ EOF → kindAt t e ≡ Newline → ⊥
+eof-apart t e end o = absurd (omega (arith, end, o))
+
+-- where token e is no Newline, newlines before it never lead past it
+module _ (t : List ℕ) (e : ℕ) (end : kindAt t e ≡ Newline → ⊥) where
   -- it is so many tokens on
-  ahead : (i : ℕ) → i ≤ e → kindAt t (i + (e - i)) ≡ 0
-  ahead i h = let a : i + (e - i) ≡ e = omega arith in ap (kindAt t) a ∙ end
+  ahead : (i : ℕ) → i ≤ e → kindAt t (i + (e - i)) ≡ 1 → ⊥
+  ahead i h o = let a : i + (e - i) ≡ e = omega arith in end (ap (kindAt t) (sym a) ∙ o)
 
   pub walked-within : (i : ℕ) → i ≤ e → skipLines (walked t) i ≤ e
   walked-within i h = go (eqb (kindAt t i) Newline) refl
@@ -50,11 +54,11 @@ module _ (t x : List ℕ) (n : ℕ) (some : 0 < n) (kept : n ≤ count t) (end :
   unfolding lineWord
   hops-same i h =
       let w : field indexWidth 0 (lineIndex t n x) i ≡ i + linesFrom (n - 1 - i) t i + 1 = index-words t n x i (omega arith) fits in
-      let s : linesFrom (count t - i) t i ≡ linesFrom (n - 1 - i) t i = lines-stop t (n - 1 - i) (count t - i) i (ahead t (n - 1) end i h) (omega arith) in
+      let s : linesFrom (count t - i) t i ≡ linesFrom (n - 1 - i) t i = lines-stop t (n - 1 - i) (count t - i) i (ahead t (n - 1) (eof-apart t (n - 1) end) i h) (omega arith) in
       ap (λ (w : ℕ). w - 1 - i) w ∙ omega arith
 
   pub index-agrees : (i : ℕ) → i ≤ n - 1 → skipLines (indexed t (lineIndex t n x)) i ≡ skipLines (walked t) i
   index-agrees i h = skip-same (indexed t (lineIndex t n x)) (walked t) i refl (λ o. hops-same i h)
 
   pub indexed-within : (i : ℕ) → i ≤ n - 1 → skipLines (indexed t (lineIndex t n x)) i ≤ n - 1
-  indexed-within i h = rw (index-agrees i h) (walked-within t (n - 1) end i h)
+  indexed-within i h = rw (index-agrees i h) (walked-within t (n - 1) (eof-apart t (n - 1) end) i h)

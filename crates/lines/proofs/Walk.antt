@@ -25,14 +25,13 @@ pub lines-none : (t : List ℕ) (i : ℕ) → linesFrom 0 t i ≡ 0
 unfolding linesFrom
 lines-none t i = refl
 
--- with an EOF k tokens on, it does not matter how many more are looked at
-pub lines-stop : (t : List ℕ) (k m i : ℕ) → kindAt t (i + k) ≡ 0 → k ≤ m → linesFrom m t i ≡ linesFrom k t i
+-- where the token k tokens on is no Newline, it does not matter how many more are looked at
+pub lines-stop : (t : List ℕ) (k m i : ℕ) → (kindAt t (i + k) ≡ 1 → ⊥) → k ≤ m → linesFrom m t i ≡ linesFrom k t i
 lines-stop t zero m i z h =
     let e : i + 0 ≡ i = omega arith in
-    let y : kindAt t i ≡ 0 = ap (kindAt t) (sym e) ∙ z in
-    lines-off t m i (λ o. absurd (omega arith)) ∙ sym (lines-none t i)
+    lines-off t m i (λ o. z (ap (kindAt t) e ∙ o)) ∙ sym (lines-none t i)
 lines-stop t (suc k) zero i z h = absurd (omega arith)
-lines-stop t (suc k) (suc m) i z h = let s : i + 1 + k ≡ i + suc k = omega arith in go (lines-stop t k m (i + 1) (ap (kindAt t) s ∙ z) (omega arith)) (eqb (kindAt t i) Newline) refl
+lines-stop t (suc k) (suc m) i z h = let s : i + 1 + k ≡ i + suc k = omega arith in go (lines-stop t k m (i + 1) (λ o. z (ap (kindAt t) (sym s) ∙ o)) (omega arith)) (eqb (kindAt t i) Newline) refl
   where
     go : linesFrom m t (i + 1) ≡ linesFrom k t (i + 1) → (b : Bool) → eqb (kindAt t i) Newline ≡ b → linesFrom (suc m) t i ≡ linesFrom (suc k) t i
     go y true e = lines-on t m i (eqb-true _ _ e) ∙ ap suc y ∙ sym (lines-on t k i (eqb-true _ _ e))
@@ -47,8 +46,8 @@ lines-most t (suc n) i = go (lines-most t n (i + 1)) (eqb (kindAt t i) Newline) 
     go y true e = let s : linesFrom (suc n) t i ≡ suc (linesFrom n t (i + 1)) = lines-on t n i (eqb-true _ _ e) in omega arith
     go y false e = let z : linesFrom (suc n) t i ≡ 0 = lines-off t (suc n) i (eqb-false _ _ e) in omega arith
 
--- so they end before an EOF, however many are looked at
-pub lines-within : (t : List ℕ) (k m i : ℕ) → kindAt t (i + k) ≡ 0 → linesFrom m t i ≤ k
+-- so they end before such a token, however many are looked at
+pub lines-within : (t : List ℕ) (k m i : ℕ) → (kindAt t (i + k) ≡ 1 → ⊥) → linesFrom m t i ≤ k
 lines-within t k m i z =
     ⊎-elim (λ h. omega (arith, lines-most t m i)) (λ h. let e : linesFrom m t i ≡ linesFrom k t i = lines-stop t k m i z h in omega (arith, lines-most t k i)) (lt-or-le m k)
 
@@ -61,11 +60,11 @@ lines-kinds t t′ (suc n) i same = go (same i (omega arith) (omega arith)) (lin
     go at y true e = lines-on t n i (eqb-true _ _ e) ∙ ap suc y ∙ sym (lines-on t′ n i (sym at ∙ eqb-true _ _ e))
     go at y false e = lines-off t (suc n) i (eqb-false _ _ e) ∙ sym (lines-off t′ (suc n) i (λ o. eqb-false _ _ e (at ∙ o)))
 
--- so of any number of tokens, where an EOF k tokens on ends both
-pub lines-same : (t t′ : List ℕ) (k m i : ℕ) → kindAt t (i + k) ≡ 0 → ((j : ℕ) → j ≤ i + k → kindAt t j ≡ kindAt t′ j) → linesFrom m t i ≡ linesFrom m t′ i
+-- so of any number of tokens, where one k tokens on that is no Newline ends both
+pub lines-same : (t t′ : List ℕ) (k m i : ℕ) → (kindAt t (i + k) ≡ 1 → ⊥) → ((j : ℕ) → j ≤ i + k → kindAt t j ≡ kindAt t′ j) → linesFrom m t i ≡ linesFrom m t′ i
 lines-same t t′ k m i z same =
     ⊎-elim (λ h. lines-kinds t t′ m i (λ j p q. same j (omega arith)))
     (λ h. lines-stop t k m i z h
     ∙ lines-kinds t t′ k i (λ j p q. same j (omega arith))
-    ∙ sym (lines-stop t′ k m i (sym (same (i + k) (omega arith)) ∙ z) h))
+    ∙ sym (lines-stop t′ k m i (λ o. z (same (i + k) (omega arith) ∙ o)) h))
     (lt-or-le m k)

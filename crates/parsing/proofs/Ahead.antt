@@ -1,5 +1,5 @@
 -- What stands behind EOF does not matter: over two token tables that agree up to an EOF, every reading that starts at or before it does the same, and stays there. So a parsing depends on no token behind EOF; and it ends with one of five outcomes.
-use mathlib.Core.Path.{_≡_, refl, subst}
+use mathlib.Core.Path.{_≡_, refl, subst, subst⁻¹}
 use mathlib.Core.List.{List, [], _∷_}
 use mathlib.Core.Bool.{Bool, true, false, _&&_, _||_}
 use mathlib.Core.Logic.{⊎-elim}
@@ -28,9 +28,10 @@ use Rattle.parser.specs.Grammar.{firstOf, property, when, assigned, Level, leve
 use Rattle.parser.specs.Whole.{Parsed, topLevel, orEnds, ifEnd, statements, parsed}
 use Rattle.parser.proofs.Push.{push-nodes, push-errors}
 use Rattle.lines.specs.Lines.{lineIndex}
-use Rattle.lines.proofs.Agrees.{skip-same, walked-within, walked-same, hops-same, indexed-within}
+use Rattle.lines.proofs.Agrees.{skip-same, eof-apart, walked-within, walked-same, hops-same, indexed-within}
 use Rattle.parsing.specs.Ahead.{Agree, isOutcome}
 use Rattle.parsing.specs.Places.{isParsers}
+use Rattle.parsing.specs.Asked.{isAsked}
 use Rattle.parsing.proofs.Same.{body-same}
 use Rattle.progress.proofs.Fuel.{parsed-never-spent}
 
@@ -38,22 +39,38 @@ use Rattle.progress.proofs.Fuel.{parsed-never-spent}
 abbrev pub Stops : ℕ → Type 0
 Stops o = dec.T (isOutcome o || eqb o 99)
 
--- ---- the tokens that a program names are at or before token e, its messages are the parser's, and what it stops with is one of those stops
+-- a test holds, and what follows it
+abbrev pub Given : Bool → Type 0 → Type 0
+Given true A = A
+Given false A = ⊥
+
+pub given-out : (b : Bool) {A : Type 0} → Given b A → A
+given-out true a = a
+given-out false a = absurd a
+
+pub given-so : (b : Bool) (A : Type 0) → Given b A → b ≡ true
+given-so true A a = refl
+given-so false A a = absurd a
+
+given-in : (b : Bool) {A : Type 0} → b ≡ true → A → Given b A
+given-in b {A} e a = subst⁻¹ (λ (c : Bool). Given c A) e a
+
+-- ---- the tokens that a program names are at or before token e, the kinds that it asks for are 1 to 49, its messages are the parser's, and what it stops with is one of those stops and not 0
 abbrev pub Kept : ℕ → Prog → Type 0
 Kept e (give f) = Unit {0}
-Kept e (stop o) = Stops o
+Kept e (stop o) = Given (leb 1 o) (Stops o)
 Kept e (m >>= k) = Kept e m × ((f : Found) → Kept e (k f))
 Kept e (m >> k) = Kept e m × Kept e k
-Kept e (look kind found missing) = ((i : ℕ) → i ≤ e → Kept e (found i)) × Kept e missing
-Kept e (check kind found missing) = Kept e found × Kept e missing
+Kept e (look kind found missing) = Given (isAsked kind) (((i : ℕ) → i ≤ e → Kept e (found i)) × Kept e missing)
+Kept e (check kind found missing) = Given (isAsked kind) (Kept e found × Kept e missing)
 Kept e (atEnd found missing) = Kept e found × Kept e missing
 Kept e previous = Unit {0}
 Kept e (node d) = Unit {0}
 Kept e (link prev next) = Unit {0}
 Kept e (fail message) = dec.T (isParsers message)
 Kept e (failAt message token) = dec.T (isParsers message) × (token ≤ e)
-Kept e (consume kind message) = dec.T (isParsers message)
-Kept e (require kind message) = dec.T (isParsers message)
+Kept e (consume kind message) = Given (isAsked kind) (dec.T (isParsers message))
+Kept e (require kind message) = Given (isAsked kind) (dec.T (isParsers message))
 Kept e enterLoop = Unit {0}
 Kept e leaveLoop = Unit {0}
 Kept e giveBack = Unit {0}
@@ -179,18 +196,18 @@ module _ (T : View) (e : ℕ) where
   unfolding declaration
   declaration-kept = (λ i h. class-kept, (λ i h. fn-stmt-kept, (λ i h. let-kept, statement-kept)))
 
-  arguments-from-kept : (mark f n first last : ℕ) → Kept e (argumentsFrom T mark f n first last)
+  arguments-from-kept : (mark : ℕ) → isAsked mark ≡ true → (f n first last : ℕ) → Kept e (argumentsFrom T mark f n first last)
   unfolding argumentsFrom
-  arguments-from-kept mark zero n first last = tt
-  arguments-from-kept mark (suc f) n first last = when-kept (eqb mark RightParen && leb 255 n) e _ _ (tt, tt) (tt, λ x. (tt, (λ i h. (tt, arguments-from-kept mark f (n + 1) (firstOf first (x .node)) (x .node)), tt)))
+  arguments-from-kept mark g zero n first last = tt
+  arguments-from-kept mark g (suc f) n first last = when-kept (eqb mark RightParen && leb 255 n) e _ _ (tt, tt) (tt, λ x. (tt, (λ i h. given-in (isAsked mark) g (tt, arguments-from-kept mark g f (n + 1) (firstOf first (x .node)) (x .node)), tt)))
 
-  arguments-kept : (mark : ℕ) → Kept e (arguments T mark)
+  arguments-kept : (mark : ℕ) → isAsked mark ≡ true → Kept e (arguments T mark)
   unfolding arguments
-  arguments-kept mark = (tt, arguments-from-kept mark (fuel T) 0 0 0)
+  arguments-kept mark g = given-in (isAsked mark) g (tt, arguments-from-kept mark g (fuel T) 0 0 0)
 
   list-kept : Kept e (list T)
   unfolding list
-  list-kept = (arguments-kept RightBrace, λ x. (tt, λ s. tt))
+  list-kept = (arguments-kept RightBrace refl, λ x. (tt, λ s. tt))
 
   dict-from-kept : (f first last : ℕ) → Kept e (dictElementsFrom T f first last)
   unfolding dictElementsFrom
@@ -223,7 +240,7 @@ module _ (T : View) (e : ℕ) where
 
   finish-call-kept : (callee : Found) → Kept e (finishCall T callee)
   unfolding finishCall
-  finish-call-kept callee = (arguments-kept RightParen, λ x. (tt, λ s. tt))
+  finish-call-kept callee = (arguments-kept RightParen refl, λ x. (tt, λ s. tt))
 
   call-from-kept : (f : ℕ) (x : Found) → Kept e (callFrom T f x)
   unfolding callFrom
@@ -238,24 +255,36 @@ module _ (T : View) (e : ℕ) where
   unfolding unary
   unary-kept = (λ i h. (tt, λ n. tt), (λ i h. (tt, λ n. tt), call-kept))
 
-  many-kept : (ks : List ℕ) (found : ℕ → Prog) (missing : Prog) → ((i : ℕ) → i ≤ e → Kept e (found i)) → Kept e missing → Kept e (lookMany T ks found missing)
+  -- operators, and those of the levels
+  abbrev Operators : List ℕ → Type 0
+  Operators [] = Unit {0}
+  Operators (k ∷ ks) = (isAsked k ≡ true) × Operators ks
+
+  abbrev Levels : List Level → Type 0
+  Levels [] = Unit {0}
+  Levels (l ∷ ls) = Operators (l .operators) × Levels ls
+
+  many-kept : (ks : List ℕ) (found : ℕ → Prog) (missing : Prog) → Operators ks → ((i : ℕ) → i ≤ e → Kept e (found i)) → Kept e missing → Kept e (lookMany T ks found missing)
   unfolding lookMany
-  many-kept [] found missing g h = h
-  many-kept (k ∷ ks) found missing g h = (g, many-kept ks found missing g h)
+  many-kept [] found missing o g h = h
+  many-kept (k ∷ ks) found missing o g h = given-in (isAsked k) (o .0) (g, many-kept ks found missing (o .1) g h)
 
-  binary-from-kept : (level : Level) (P : Prog) → Kept e P → (f : ℕ) (left : Found) → Kept e (binaryFrom T level P f left)
+  binary-from-kept : (level : Level) (P : Prog) → Operators (level .operators) → Kept e P → (f : ℕ) (left : Found) → Kept e (binaryFrom T level P f left)
   unfolding binaryFrom
-  binary-from-kept level P g zero left = tt
-  binary-from-kept level P g (suc f) left = many-kept (level .operators) _ _ (λ i h. (g, λ r. (tt, λ n. binary-from-kept level P g f n))) tt
+  binary-from-kept level P o g zero left = tt
+  binary-from-kept level P o g (suc f) left = many-kept (level .operators) _ _ o (λ i h. (g, λ r. (tt, λ n. binary-from-kept level P o g f n))) tt
 
-  binary-kept : (ls : List Level) → Kept e (binary T ls)
+  binary-kept : (ls : List Level) → Levels ls → Kept e (binary T ls)
   unfolding binary
-  binary-kept [] = unary-kept
-  binary-kept (l ∷ ls) = (binary-kept ls, λ left. binary-from-kept l (binary T ls) (binary-kept ls) (fuel T) left)
+  binary-kept [] o = unary-kept
+  binary-kept (l ∷ ls) o = (binary-kept ls (o .1), λ left. binary-from-kept l (binary T ls) (o .0) (binary-kept ls (o .1)) (fuel T) left)
+
+  levels-asked : Levels levels
+  levels-asked = ((refl, tt), ((refl, tt), ((refl, (refl, tt)), ((refl, (refl, (refl, (refl, tt)))), ((refl, (refl, tt)), ((refl, (refl, (refl, tt))), ((refl, tt), tt)))))))
 
   assignment-kept : Kept e (assignment T)
   unfolding assignment
-  assignment-kept = (binary-kept levels, λ left. (λ i h. (tt, λ v. assigned-kept (left .form) (left .access) (v .node) i e h), tt))
+  assignment-kept = (binary-kept levels levels-asked, λ left. (λ i h. (tt, λ v. assigned-kept (left .form) (left .access) (v .node) i e h), tt))
 
   pub body-kept : (w : Which) → Kept e (body T w)
   unfolding body
@@ -266,7 +295,7 @@ module _ (T : View) (e : ℕ) where
 -- ---- tables that agree
 -- two tables whose newlines are walked
 pub agree-walked : (t t′ : List ℕ) (e : ℕ) → count t ≡ count t′ → kindAt t e ≡ 0 → ((i : ℕ) → i ≤ e → kindAt t i ≡ kindAt t′ i) → ((i : ℕ) → i ≤ e → startAt t i ≡ startAt t′ i) → ((i : ℕ) → i ≤ e → lineAt t i ≡ lineAt t′ i) → Agree e (walked t) (walked t′)
-agree-walked t t′ e c end k s l = record { counts = c; end = end; kinds = k; starts = s; lines = l; hops = λ i h n. walked-same t e end t′ c k i h; within = walked-within t e end }
+agree-walked t t′ e c end k s l = record { counts = c; end = end; kinds = k; starts = s; lines = l; hops = λ i h n. walked-same t e (eof-apart t e end) t′ c k i h; within = walked-within t e (eof-apart t e end) }
 
 -- such a table agrees with itself up to any EOF
 pub agree-self : (t : List ℕ) (e : ℕ) → kindAt t e ≡ 0 → Agree e (walked t) (walked t)
@@ -383,11 +412,11 @@ module _ (T T′ : View) (e : ℕ) (a : Agree e T T′) where
     pub run-ahead : (P : Prog) → Kept e P → (p : State) (E N : List ℕ) → p .current ≤ e → Ahead e (run T low P p E N) (run T′ low′ P p E N)
     unfolding run
     run-ahead (give f) k p E N l = ahead p _ E N l tt
-    run-ahead (stop o) k p E N l = ahead p _ E N l k
+    run-ahead (stop o) k p E N l = ahead p _ E N l (given-out (leb 1 o) k)
     run-ahead (m >>= n) k p E N l = ahead-then e _ _ (run-ahead m (k .0) p E N l) λ f q E N h. run-ahead (n f) (k .1 f) q E N h
     run-ahead (m >> n) k p E N l = ahead-then e _ _ (run-ahead m (k .0) p E N l) λ f q E N h. run-ahead n (k .1) q E N h
-    run-ahead (look kind found missing) k p E N l = ahead-seen e _ _ _ _ (matches-ahead T T′ e a (p .current) kind l) (λ i h. run-ahead (found i) (k .0 i h) _ E N h) (run-ahead missing (k .1) _ E N l)
-    run-ahead (check kind found missing) k p E N l = ahead-seen e _ _ _ _ (check-ahead T T′ e a (p .current) kind l) (λ i h. run-ahead found (k .0) _ E N h) (run-ahead missing (k .1) _ E N l)
+    run-ahead (look kind found missing) k p E N l = ahead-seen e _ _ _ _ (matches-ahead T T′ e a (p .current) kind l) (λ i h. run-ahead (found i) (given-out (isAsked kind) k .0 i h) _ E N h) (run-ahead missing (given-out (isAsked kind) k .1) _ E N l)
+    run-ahead (check kind found missing) k p E N l = ahead-seen e _ _ _ _ (check-ahead T T′ e a (p .current) kind l) (λ i h. run-ahead found (given-out (isAsked kind) k .0) _ E N h) (run-ahead missing (given-out (isAsked kind) k .1) _ E N l)
     run-ahead (atEnd found missing) k p E N l = rw (← a .kinds (p .current) l) (ahead-either e (eqb (kindAt (T .tokens) (p .current)) 0) _ _ _ _ (run-ahead found (k .0) p E N l) (run-ahead missing (k .1) p E N l))
     run-ahead previous k p E N l = ahead p _ E N l tt
     run-ahead (node d) k p E N l = ahead-push e d p E N l

@@ -4,5 +4,6 @@ pub mod Sizes
 pub mod Same
 pub mod Ahead
 pub mod Places
+pub mod Over
 pub mod Calls
 pub mod One

@@ -26,7 +26,8 @@ use Rattle.parser.specs.Whole.{Parsed, topLevel, orEnds, ifEnd, statements, par
 use Rattle.parser.proofs.Push.{push-node, push-error}
 use Rattle.parsing.specs.Ahead.{Agree}
 use Rattle.parsing.specs.Places.{isParsers, About}
-use Rattle.parsing.proofs.Ahead.{Kept, agree-self, Spotted, spot, none, check-ahead, matches-ahead, body-kept}
+use Rattle.parsing.specs.Asked.{isAsked}
+use Rattle.parsing.proofs.Ahead.{given-out, Kept, agree-self, Spotted, spot, none, check-ahead, matches-ahead, body-kept}
 use Rattle.parsing.proofs.Frame.{stateOf, errorsOf}
 
 -- token e is an EOF that no reading passes; a errors were there before
@@ -128,16 +129,16 @@ module _ (T : View) (e a : ℕ) (same : Agree e T T) where
     run-fine (stop o) k p E N l x = record { at = l; errors = x }
     run-fine (m >>= n) k p E N l x = fine-then _ _ (run-fine m (k .0) p E N l x) λ f. run-fine (n f) (k .1 f)
     run-fine (m >> n) k p E N l x = fine-then _ _ (run-fine m (k .0) p E N l x) λ f. run-fine n (k .1)
-    run-fine (look kind found missing) k p E N l x = fine-seen _ _ (matches-ahead T T e same (p .current) kind l) (λ i h. run-fine (found i) (k .0 i h) _ E N h x) (run-fine missing (k .1) _ E N l x)
-    run-fine (check kind found missing) k p E N l x = fine-seen _ _ (check-ahead T T e same (p .current) kind l) (λ i h. run-fine found (k .0) _ E N h x) (run-fine missing (k .1) _ E N l x)
+    run-fine (look kind found missing) k p E N l x = fine-seen _ _ (matches-ahead T T e same (p .current) kind l) (λ i h. run-fine (found i) (given-out (isAsked kind) k .0 i h) _ E N h x) (run-fine missing (given-out (isAsked kind) k .1) _ E N l x)
+    run-fine (check kind found missing) k p E N l x = fine-seen _ _ (check-ahead T T e same (p .current) kind l) (λ i h. run-fine found (given-out (isAsked kind) k .0) _ E N h x) (run-fine missing (given-out (isAsked kind) k .1) _ E N l x)
     run-fine (atEnd found missing) k p E N l x = fine-either (eqb (kindAt (T .tokens) (p .current)) 0) _ _ (run-fine found (k .0) p E N l x) (run-fine missing (k .1) p E N l x)
     run-fine previous k p E N l x = record { at = l; errors = x }
     run-fine (node d) k p E N l x = fine-push d p E N l x
     run-fine (link prev next) k p E N l x = record { at = l; errors = x }
     run-fine (fail message) k p E N l x = fine-error message (p .current) k l p E N l x
     run-fine (failAt message token) k p E N l x = let b = k .1 in fine-error message (token - 1) (k .0) (omega arith) p E N l x
-    run-fine (consume kind message) k p E N l x = fine-consume kind message k p E N l x
-    run-fine (require kind message) k p E N l x = fine-require kind message k p E N l x
+    run-fine (consume kind message) k p E N l x = fine-consume kind message (given-out (isAsked kind) k) p E N l x
+    run-fine (require kind message) k p E N l x = fine-require kind message (given-out (isAsked kind) k) p E N l x
     run-fine enterLoop k p E N l x = record { at = l; errors = x }
     run-fine leaveLoop k p E N l x = record { at = l; errors = x }
     run-fine giveBack k p E N l x = record { at = l; errors = x }

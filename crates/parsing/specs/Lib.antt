@@ -1,3 +1,4 @@
 pub mod Ahead
 pub mod Places
+pub mod Asked
 pub mod Calls
