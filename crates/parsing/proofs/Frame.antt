@@ -236,7 +236,7 @@ pub record Ended (a : ℕ) (E : List ℕ) (b : ℕ) (N : List ℕ) (d : Parsed) 
   pub errors : ErrorsGrow a E (d .errorCount) (d .errors)
   pub nodes : NodesEnd b N (d .nodeCount) (d .nodes)
 
-zeroed-rest : (N : List ℕ) (n i : ℕ) → nodeWidth * n ≤ i → getD (zeroed nodeWidth N n) i 0 ≡ 0
+pub zeroed-rest : (N : List ℕ) (n i : ℕ) → nodeWidth * n ≤ i → getD (zeroed nodeWidth N n) i 0 ≡ 0
 zeroed-rest N n i h =
     ⊎-elim (λ l. zeroed-word nodeWidth N n i h l)
     (λ l. List·getD-eq-default (zeroed nodeWidth N n) 0 (omega (arith, l, zeroed-length nodeWidth N n)))

@@ -39,11 +39,8 @@ first-twice zero zero c h = absurd (omega arith)
 first-twice zero (suc b) c h = refl
 first-twice (suc a) b c h = refl
 
--- over any view U, with its tokens T
-module _ (U : View) where
-  abbrev T : List ℕ
-  T = U .tokens
-
+-- over any view U and any table T of tokens
+module _ (U : View) (T : List ℕ) where
   -- ---- statements
   when-ok : (b : ℕ) (t : Bool) (A B : Prog) (R : Found → ℕ → List ℕ → Type 0) (u : ℕ) (N : List ℕ) → Wp T b A R u N → Wp T b B R u N → Wp T b (when t A B) R u N
   when-ok b true A B R u N x y = x

@@ -61,9 +61,19 @@ link-linked N u prev n r h = go (lt-or-le 0 prev)
     go (inr p) = let z : prev ≡ 0 = omega arith in rw (linked-none N prev n (inl z)) (record { others = λ i k w c. refl; words = λ i k c. refl; put = λ q. absurd (omega arith) })
 
 -- ---- the token found is of the kind, so it is one of the table's: no reader asks for EOF
-abbrev Spotted : List ℕ → ℕ → Seen → Type 0
-Spotted T kind (At i) = kindAt T i ≡ kind
-Spotted T kind Nothing = Unit {0}
+-- the table T has the tokens that a reading of the view U finds from one of its tokens, or from its end, on: U's own table has them, and so have its tokens before an EOF
+pub record Covers (U : View) (T : List ℕ) : Type 0 where
+  pub here : (i k : ℕ) → i ≤ count T → kindAt (U .tokens) i ≡ suc k → kindAt T i ≡ suc k
+  pub past : (i k : ℕ) → i ≤ count T → kindAt (U .tokens) (skipLines U i) ≡ suc k → kindAt T (skipLines U i) ≡ suc k
+
+-- a token of that kind in both
+pub record Both (S T : List ℕ) (kind i : ℕ) : Type 0 where
+  pub first : kindAt S i ≡ kind
+  pub second : kindAt T i ≡ kind
+
+abbrev Spotted : List ℕ → List ℕ → ℕ → Seen → Type 0
+Spotted S T kind (At i) = Both S T kind i
+Spotted S T kind Nothing = Unit {0}
 
 -- reference i names a token of the kind
 pub record Token (T : List ℕ) (kind i : ℕ) : Type 0 where
@@ -74,35 +84,37 @@ abbrev Passed : List ℕ → ℕ → Seen → Type 0
 Passed T kind (At i) = Token T kind i
 Passed T kind Nothing = Unit {0}
 
-seen-kind : (T : List ℕ) (kind i : ℕ) (b : Bool) → eqb (kindAt T i) kind ≡ b → Spotted T kind (seenIf b i)
+seen-kind : (S T : List ℕ) (kind i : ℕ) → (kindAt S i ≡ kind → kindAt T i ≡ kind) → (b : Bool) → eqb (kindAt S i) kind ≡ b → Spotted S T kind (seenIf b i)
 unfolding seenIf
-seen-kind T kind i true e = eqb-true _ _ e
-seen-kind T kind i false e = tt
+seen-kind S T kind i h true e = let f = eqb-true _ _ e in record { first = f; second = h f }
+seen-kind S T kind i h false e = tt
 
-check-kind : (U : View) (i kind : ℕ) → Spotted (U .tokens) kind (checkAt U i kind)
-unfolding checkAt
-check-kind U i kind = go (eqb kind 1) refl
-  where
-    T : List ℕ
-    T = U .tokens
-
-    go : (b : Bool) → eqb kind 1 ≡ b → Spotted T kind (elim b [ true ↦ seenIf (eqb (kindAt T i) 1) i | false ↦ seenIf (eqb (kindAt T (skipLines U i)) kind) (skipLines U i) ])
-    go true e = let f = eqb-true kind 1 e in rw f (seen-kind T 1 i (eqb (kindAt T i) 1) refl)
-    go false e = seen-kind T kind (skipLines U i) (eqb (kindAt T (skipLines U i)) kind) refl
-
-after-kind : (T : List ℕ) (k i : ℕ) → kindAt T i ≡ suc k → Token T (suc k) (after T i)
-after-kind T k i e =
-    let h = kind-inside T i k e in
+after-kind : (S T : List ℕ) (k i : ℕ) → Both S T (suc k) i → Token T (suc k) (after S i)
+after-kind S T k i b =
+    let e = b .first in
+    let h = kind-inside T i k (b .second) in
     let y : i + 1 - 1 ≡ i = omega arith in
-    rw (← after-in T i λ z. omega (arith, e, z)) (record { within = omega (arith, h); seen = rw y e })
+    rw (← after-in S i λ z. omega (arith, e, z)) (record { within = omega (arith, h); seen = rw y (b .second) })
 
-matches-kind : (U : View) (i k : ℕ) → Passed (U .tokens) (suc k) (matchesAt U i (suc k))
-unfolding matchesAt
-matches-kind U i k = go (checkAt U i (suc k)) (check-kind U i (suc k))
-  where
-    go : (s : Seen) → Spotted (U .tokens) (suc k) s → Passed (U .tokens) (suc k) (elim s [ At j ↦ At (after (U .tokens) j) | Nothing ↦ Nothing ])
-    go (At j) x = after-kind (U .tokens) k j x
-    go Nothing x = tt
+module _ (U : View) (T : List ℕ) (c : Covers U T) where
+  check-kind : (i k : ℕ) → i ≤ count T → Spotted (U .tokens) T (suc k) (checkAt U i (suc k))
+  unfolding checkAt
+  check-kind i k l = go (eqb (suc k) 1) refl
+    where
+      S : List ℕ
+      S = U .tokens
+
+      go : (b : Bool) → eqb (suc k) 1 ≡ b → Spotted S T (suc k) (elim b [ true ↦ seenIf (eqb (kindAt S i) 1) i | false ↦ seenIf (eqb (kindAt S (skipLines U i)) (suc k)) (skipLines U i) ])
+      go true e = let f = eqb-true (suc k) 1 e in rw f (seen-kind S T 1 i (c .here i 0 l) (eqb (kindAt S i) 1) refl)
+      go false e = seen-kind S T (suc k) (skipLines U i) (c .past i k l) (eqb (kindAt S (skipLines U i)) (suc k)) refl
+
+  matches-kind : (i k : ℕ) → i ≤ count T → Passed T (suc k) (matchesAt U i (suc k))
+  unfolding matchesAt
+  matches-kind i k l = go (checkAt U i (suc k)) (check-kind i k l)
+    where
+      go : (s : Seen) → Spotted (U .tokens) T (suc k) s → Passed T (suc k) (elim s [ At j ↦ At (after (U .tokens) j) | Nothing ↦ Nothing ])
+      go (At j) x = after-kind (U .tokens) T k j x
+      go Nothing x = tt
 
 -- ---- what is found
 -- what may stand left of `=` refers to a token, and to an expression that is no list's member
@@ -243,9 +255,9 @@ module _ (T : List ℕ) where
   done-passed b R N kind (At i) f g t h e = h i t
   done-passed b R N kind Nothing f g t h e = e
 
-  done-spotted : (b : ℕ) (R : Found → ℕ → List ℕ → Type 0) (N : List ℕ) (k : ℕ) (s : Seen) (f : ℕ → Reply) (g : Unit {0} → Reply) → Spotted T (suc k) s → ((i : ℕ) → i ≤ count T → Done b R N (f i)) → Done b R N (g tt) → Done b R N (ifSeen s f g)
-  done-spotted b R N k (At i) f g t h e = let l = kind-inside T i k t in h i (omega arith)
-  done-spotted b R N k Nothing f g t h e = e
+  done-spotted : (b : ℕ) (R : Found → ℕ → List ℕ → Type 0) (N : List ℕ) (k : ℕ) (S : List ℕ) (s : Seen) (f : ℕ → Reply) (g : Unit {0} → Reply) → Spotted S T (suc k) s → ((i : ℕ) → i ≤ count T → Done b R N (f i)) → Done b R N (g tt) → Done b R N (ifSeen s f g)
+  done-spotted b R N k S (At i) f g t h e = let l = kind-inside T i k (t .second) in h i (omega arith)
+  done-spotted b R N k S Nothing f g t h e = e
 
   done-either : (b : ℕ) (R : Found → ℕ → List ℕ → Type 0) (N : List ℕ) (t : Bool) (f g : Unit {0} → Reply) → Done b R N (f tt) → Done b R N (g tt) → Done b R N (either t f g)
   done-either b R N true f g x y = x
@@ -271,8 +283,8 @@ module _ (T : List ℕ) where
       record { done = (kept, st′, w .2 (put nodeWidth N (p .nodes) (nodeWords d)) m) })
       (record { done = kept-all b N })
 
-  done-error : (b : ℕ) (R : Found → ℕ → List ℕ → Type 0) (message i : ℕ) (p : State) (E N : List ℕ) → Stands b (p .nodes) (p .current) N → R (plain 0) (p .nodes) N → Done b R N (pushError T message i p E N)
-  done-error b R message i p E N st w = push-error (Done b R N) T message i p E N (λ _. record { done = (kept-all b N, st, w) }) (record { done = kept-all b N })
+  done-error : (b : ℕ) (R : Found → ℕ → List ℕ → Type 0) (S : List ℕ) (message i : ℕ) (p : State) (E N : List ℕ) → Stands b (p .nodes) (p .current) N → R (plain 0) (p .nodes) N → Done b R N (pushError S message i p E N)
+  done-error b R S message i p E N st w = push-error (Done b R N) S message i p E N (λ _. record { done = (kept-all b N, st, w) }) (record { done = kept-all b N })
 
   -- a reader one level down
   abbrev pub Reads : Sort → ℕ → Reader → Type 0
@@ -303,36 +315,36 @@ module _ (T : List ℕ) where
       below (inl z) = omega arith
       below (inr y) = let a = y .below in let m = y .made in omega arith
 
--- over any view: however it passes newlines
-module _ (U : View) (low : Which → Reader) (h : (w : Which) → Reads (U .tokens) (sortOf w) (tightFrom w) (low w)) where
-  pub sound : (Q : Prog) (p : State) (E N : List ℕ) (b : ℕ) (R : Found → ℕ → List ℕ → Type 0) → Stands (U .tokens) b (p .nodes) (p .current) N → Wp (U .tokens) b Q R (p .nodes) N → Done (U .tokens) b R N (run U low Q p E N)
+-- over any view, however it passes newlines, and any table that has the tokens that a reading finds
+module _ (U : View) (T : List ℕ) (c : Covers U T) (low : Which → Reader) (h : (w : Which) → Reads T (sortOf w) (tightFrom w) (low w)) where
+  pub sound : (Q : Prog) (p : State) (E N : List ℕ) (b : ℕ) (R : Found → ℕ → List ℕ → Type 0) → Stands T b (p .nodes) (p .current) N → Wp T b Q R (p .nodes) N → Done T b R N (run U low Q p E N)
   unfolding run consumeAt requireAt
-  sound (give f) p E N b R st w = record { done = (kept-all (U .tokens) b N, st, w) }
-  sound (stop o) p E N b R st w = record { done = kept-all (U .tokens) b N }
-  sound (m >>= k) p E N b R st w = done-then (U .tokens) b (λ f v M. Wp (U .tokens) b (k f) R v M) R N (run U low m p E N) (λ f q E M. run U low (k f) q E M) (sound m p E N b (λ f v M. Wp (U .tokens) b (k f) R v M) st w) (λ f q E M st w. sound (k f) q E M b R st w)
-  sound (m >> k) p E N b R st w = done-then (U .tokens) b (λ f v M. Wp (U .tokens) b k R v M) R N (run U low m p E N) (λ f q E M. run U low k q E M) (sound m p E N b (λ f v M. Wp (U .tokens) b k R v M) st w) (λ f q E M st w. sound k q E M b R st w)
+  sound (give f) p E N b R st w = record { done = (kept-all T b N, st, w) }
+  sound (stop o) p E N b R st w = record { done = kept-all T b N }
+  sound (m >>= k) p E N b R st w = done-then T b (λ f v M. Wp T b (k f) R v M) R N (run U low m p E N) (λ f q E M. run U low (k f) q E M) (sound m p E N b (λ f v M. Wp T b (k f) R v M) st w) (λ f q E M st w. sound (k f) q E M b R st w)
+  sound (m >> k) p E N b R st w = done-then T b (λ f v M. Wp T b k R v M) R N (run U low m p E N) (λ f q E M. run U low k q E M) (sound m p E N b (λ f v M. Wp T b k R v M) st w) (λ f q E M st w. sound k q E M b R st w)
   sound (look zero found missing) p E N b R st w = absurd w
-  sound (look (suc k) found missing) p E N b R st w = done-passed (U .tokens) b R N (suc k) (matchesAt U (p .current) (suc k)) _ _ (matches-kind U (p .current) k) (λ i t. sound (found i) _ E N b R (state-moved (U .tokens) i (t .within) st) (w .0 i t)) (sound missing _ E N b R st (w .1))
+  sound (look (suc k) found missing) p E N b R st w = done-passed T b R N (suc k) (matchesAt U (p .current) (suc k)) _ _ (matches-kind U T c (p .current) k (st .cursor)) (λ i t. sound (found i) _ E N b R (state-moved T i (t .within) st) (w .0 i t)) (sound missing _ E N b R st (w .1))
   sound (check zero found missing) p E N b R st w = absurd w
-  sound (check (suc k) found missing) p E N b R st w = done-spotted (U .tokens) b R N k (checkAt U (p .current) (suc k)) _ _ (check-kind U (p .current) (suc k)) (λ i t. sound found _ E N b R (state-moved (U .tokens) i t st) (w .0)) (sound missing _ E N b R st (w .1))
-  sound (atEnd found missing) p E N b R st w = done-either (U .tokens) b R N (eqb (kindAt (U .tokens) (p .current)) 0) _ _ (sound found p E N b R st (w .0)) (sound missing p E N b R st (w .1))
-  sound previous p E N b R st w = record { done = (kept-all (U .tokens) b N, st, w (p .current) (st .cursor)) }
-  sound (node d) p E N b R st w = done-push (U .tokens) b R d p E N st w
-  sound (link prev n) p E N b R st w = done-link (U .tokens) b R prev n p E N st w
-  sound (fail message) p E N b R st w = done-error (U .tokens) b R message (p .current) p E N st w
-  sound (failAt message token) p E N b R st w = done-error (U .tokens) b R message (token - 1) p E N st w
+  sound (check (suc k) found missing) p E N b R st w = done-spotted T b R N k (U .tokens) (checkAt U (p .current) (suc k)) _ _ (check-kind U T c (p .current) k (st .cursor)) (λ i t. sound found _ E N b R (state-moved T i t st) (w .0)) (sound missing _ E N b R st (w .1))
+  sound (atEnd found missing) p E N b R st w = done-either T b R N (eqb (kindAt (U .tokens) (p .current)) 0) _ _ (sound found p E N b R st (w .0)) (sound missing p E N b R st (w .1))
+  sound previous p E N b R st w = record { done = (kept-all T b N, st, w (p .current) (st .cursor)) }
+  sound (node d) p E N b R st w = done-push T b R d p E N st w
+  sound (link prev n) p E N b R st w = done-link T b R prev n p E N st w
+  sound (fail message) p E N b R st w = done-error T b R (U .tokens) message (p .current) p E N st w
+  sound (failAt message token) p E N b R st w = done-error T b R (U .tokens) message (token - 1) p E N st w
   sound (consume zero message) p E N b R st w = absurd w
-  sound (consume (suc k) message) p E N b R st w = done-passed (U .tokens) b R N (suc k) (matchesAt U (p .current) (suc k)) _ _ (matches-kind U (p .current) k) (λ i t. record { done = (kept-all (U .tokens) b N, state-moved (U .tokens) i (t .within) st, w i (t .within)) }) (done-error (U .tokens) b R message (p .current) _ E N st (w 0 (omega arith)))
+  sound (consume (suc k) message) p E N b R st w = done-passed T b R N (suc k) (matchesAt U (p .current) (suc k)) _ _ (matches-kind U T c (p .current) k (st .cursor)) (λ i t. record { done = (kept-all T b N, state-moved T i (t .within) st, w i (t .within)) }) (done-error T b R (U .tokens) message (p .current) _ E N st (w 0 (omega arith)))
   sound (require zero message) p E N b R st w = absurd w
-  sound (require (suc k) message) p E N b R st w = done-passed (U .tokens) b R N (suc k) (matchesAt U (p .current) (suc k)) _ _ (matches-kind U (p .current) k) (λ i t. record { done = (kept-all (U .tokens) b N, state-moved (U .tokens) i (t .within) st, w i (t .within)) }) (done-then (U .tokens) b (λ f v M. Unit {0}) R N _ _ (done-error (U .tokens) b (λ f v M. Unit {0}) message (p .current) _ E N st tt) (λ f q E M st w. record { done = kept-all (U .tokens) b M }))
-  sound enterLoop p E N b R st w = record { done = (kept-all (U .tokens) b N, st, w) }
-  sound leaveLoop p E N b R st w = record { done = (kept-all (U .tokens) b N, st, w) }
-  sound giveBack p E N b R st w = record { done = (kept-all (U .tokens) b N, st, w) }
-  sound (insideLoop found missing) p E N b R st w = done-either (U .tokens) b R N (eqb (p .loops) 0) _ _ (sound missing p E N b R st (w .1)) (sound found p E N b R st (w .0))
-  sound (inFunction name m) p E N b R st w = done-restored (U .tokens) b R N p (run U low m (looped p 0) E N) (sound m (looped p 0) E N b R st w)
-  sound (down k) p E N b R st w = done-down (U .tokens) b (sortOf k) (tightFrom k) R (p .nodes) (p .current) N (low k p E N) st (h k p E N (st .fits) (st .cursor)) w
+  sound (require (suc k) message) p E N b R st w = done-passed T b R N (suc k) (matchesAt U (p .current) (suc k)) _ _ (matches-kind U T c (p .current) k (st .cursor)) (λ i t. record { done = (kept-all T b N, state-moved T i (t .within) st, w i (t .within)) }) (done-then T b (λ f v M. Unit {0}) R N _ _ (done-error T b (λ f v M. Unit {0}) (U .tokens) message (p .current) _ E N st tt) (λ f q E M st w. record { done = kept-all T b M }))
+  sound enterLoop p E N b R st w = record { done = (kept-all T b N, st, w) }
+  sound leaveLoop p E N b R st w = record { done = (kept-all T b N, st, w) }
+  sound giveBack p E N b R st w = record { done = (kept-all T b N, st, w) }
+  sound (insideLoop found missing) p E N b R st w = done-either T b R N (eqb (p .loops) 0) _ _ (sound missing p E N b R st (w .1)) (sound found p E N b R st (w .0))
+  sound (inFunction name m) p E N b R st w = done-restored T b R N p (run U low m (looped p 0) E N) (sound m (looped p 0) E N b R st w)
+  sound (down k) p E N b R st w = done-down T b (sortOf k) (tightFrom k) R (p .nodes) (p .current) N (low k p E N) st (h k p E N (st .fits) (st .cursor)) w
 
-pub lower-sound : (U : View) → ((w : Which) (u : ℕ) (N : List ℕ) → Wp (U .tokens) u (body U w) (Held (U .tokens) (sortOf w) (tightFrom w) u) u N) → (l : ℕ) (w : Which) → Reads (U .tokens) (sortOf w) (tightFrom w) (lower U l w)
+pub lower-sound : (U : View) (T : List ℕ) → Covers U T → ((w : Which) (u : ℕ) (N : List ℕ) → Wp T u (body U w) (Held T (sortOf w) (tightFrom w) u) u N) → (l : ℕ) (w : Which) → Reads T (sortOf w) (tightFrom w) (lower U l w)
 unfolding lower
-lower-sound U h zero w p E N f c = record { done = kept-all (U .tokens) (p .nodes) N }
-lower-sound U h (suc l) w p E N f c = sound U (lower U l) (lower-sound U h l) (body U w) p E N (p .nodes) (Held (U .tokens) (sortOf w) (tightFrom w) (p .nodes)) (record { low = omega arith; fits = f; cursor = c; forest = forest-none (U .tokens) (p .nodes) N }) (h w (p .nodes) N)
+lower-sound U T v h zero w p E N f c = record { done = kept-all T (p .nodes) N }
+lower-sound U T v h (suc l) w p E N f c = sound U T v (lower U l) (lower-sound U T v h l) (body U w) p E N (p .nodes) (Held T (sortOf w) (tightFrom w) (p .nodes)) (record { low = omega arith; fits = f; cursor = c; forest = forest-none T (p .nodes) N }) (h w (p .nodes) N)

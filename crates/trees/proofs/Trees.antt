@@ -23,28 +23,33 @@ use Rattle.parser.specs.Whole.{Parsed, topLevel, orEnds, ifEnd, statements, par
 use Rattle.records.specs.declared.Node as rows
 use Rattle.trees.specs.Trees.{Sort, isOf, Column, Unused, One, Maybe, shapeOf, columnOf, childOf, permits, allows, kindOf, nextOf, rowAt, Reaches, here, there, Chain, single, more, Child, Fits, Formed, Statement, Many, Forest, Tree}
 use Rattle.trees.proofs.TreeRows.{chain-up, Agree, Later, forest-none, forest-join}
-use Rattle.trees.proofs.TreeTyping.{Held, sortOf, tightFrom, Stands, Kept, Done, kept-all, done-then, done-down, done-link, Reads, sound, lower-sound}
+use Rattle.trees.proofs.TreeTyping.{Covers, Held, sortOf, tightFrom, Stands, Kept, Done, kept-all, done-then, done-down, done-link, Reads, sound, lower-sound}
 use Rattle.trees.proofs.TreeLists.{Listing, fits-later, list-done, member-link, member-next}
 use Rattle.trees.proofs.TreeReaders.{body-ok}
 
+-- a view's own table has what a reading finds
+covers-self : (U : View) → Covers U (U .tokens)
+covers-self U = record { here = λ i k l e. e; past = λ i k l e. e }
+
 -- at every level each reading makes well-formed rows, keeps those before it, and gives the last of them
 pub lower-reads : (U : View) (l : ℕ) (w : Which) → Reads (U .tokens) (sortOf w) (tightFrom w) (lower U l w)
-lower-reads U = lower-sound U (body-ok U)
+lower-reads U = lower-sound U (U .tokens) (covers-self U) (body-ok U (U .tokens))
 
 -- so with well-formed rows before it there are well-formed rows after it
 pub lower-keeps : (U : View) (l : ℕ) (w : Which) (b : ℕ) (p : State) (E N : List ℕ) → Stands (U .tokens) b (p .nodes) (p .current) N → Done (U .tokens) b (Held (U .tokens) (sortOf w) (tightFrom w) (p .nodes)) N (lower U l w p E N)
 lower-keeps U l w b p E N st = done-down (U .tokens) b (sortOf w) (tightFrom w) (Held (U .tokens) (sortOf w) (tightFrom w) (p .nodes)) (p .nodes) (p .current) N (lower U l w p E N) st (lower-reads U l w p E N (st .fits) (st .cursor)) (λ f v M l x h. h)
 
 -- a top-level statement
-top-reads : (U : View) → Reads (U .tokens) Statement 0 (topLevel U)
-unfolding topLevel run
-top-reads U p E N f c = done-then T (p .nodes) (Held T Statement 0 (p .nodes)) (Held T Statement 0 (p .nodes)) N (lower U 128 Declaration p E N) _ (lower-reads U 128 Declaration p E N f c) λ n q E M st h.
-    done-then T (p .nodes) (λ g v M. Held T Statement 0 (p .nodes) n v M) (Held T Statement 0 (p .nodes)) M (consumeAt U Newline 4 q E M) _
-    (sound U (lower U 0) (lower-reads U 0) (consume Newline 4) q E M (p .nodes) (λ g v M. Held T Statement 0 (p .nodes) n v M) st (λ t c. h))
-    λ g r E M st h. record { done = (kept-all T (p .nodes) M, st, h) }
-  where
-    T : List ℕ
-    T = U .tokens
+module _ (U : View) (T : List ℕ) (c : Covers U T) where
+  low-reads : (l : ℕ) (w : Which) → Reads T (sortOf w) (tightFrom w) (lower U l w)
+  low-reads = lower-sound U T c (body-ok U T)
+
+  top-reads : Reads T Statement 0 (topLevel U)
+  unfolding topLevel run
+  top-reads p E N f g = done-then T (p .nodes) (Held T Statement 0 (p .nodes)) (Held T Statement 0 (p .nodes)) N (lower U 128 Declaration p E N) _ (low-reads 128 Declaration p E N f g) λ n q E M st h.
+      done-then T (p .nodes) (λ g v M. Held T Statement 0 (p .nodes) n v M) (Held T Statement 0 (p .nodes)) M (consumeAt U Newline 4 q E M) _
+      (sound U T c (lower U 0) (low-reads 0) (consume Newline 4) q E M (p .nodes) (λ g v M. Held T Statement 0 (p .nodes) n v M) st (λ t c. h))
+      λ g r E M st h. record { done = (kept-all T (p .nodes) M, st, h) }
 
 -- what a parsing comes to is well formed
 abbrev pub Whole : List ℕ → Parsed → Type 0
@@ -72,19 +77,24 @@ or-tree T first last u c N (reply q (Node f) E M) k st s d h =
     h f q E M (r .done .1) (r .done .2 .0) (r .done .2 .1) (r .done .2 .2)
 or-tree T first last u c N (reply q (Stop o) E M) k st s d h = ends-tree T first last u N M (st .forest) s (d .done .same)
 
-statements-tree : (f : ℕ) (U : View) (first last : ℕ) (p : State) (E N : List ℕ) → Stands (U .tokens) 0 (p .nodes) (p .current) N → Listing (U .tokens) Statement 0 first last (p .nodes) N → Whole (U .tokens) (statements f U first last p E N)
-unfolding statements
-statements-tree zero U first last p E N st s = ends-tree (U .tokens) first last (p .nodes) N N (st .forest) s (λ i k l h c. refl)
-statements-tree (suc f) U first last p E N st s = end-tree (U .tokens) (eqb (kindAt (U .tokens) (p .current)) 0) _ _
-    (ends-tree (U .tokens) first last (p .nodes) N N (st .forest) s (λ i k l h c. refl))
-    (or-tree (U .tokens) first last (p .nodes) (p .current) N (topLevel U p E N) _ st s (top-reads U p E N (st .fits) (st .cursor)) λ n q E M st l x h.
-    let d = done-link (U .tokens) 0 (λ g v O. Listing (U .tokens) Statement 0 (firstOf first (n .node)) (n .node) v O) last (n .node) q E M st (member-link (n .node) s l x (h .child .above) (h .child .below), λ O k. member-next (n .node) (omega arith) s l x (h .root) (h .child) k) in
-    statements-tree f U (firstOf first (n .node)) (n .node) q E (linked M last (n .node)) (d .done .1) (d .done .2))
+module _ (U : View) (T : List ℕ) (c : Covers U T) where
+  statements-tree : (f first last : ℕ) (p : State) (E N : List ℕ) → Stands T 0 (p .nodes) (p .current) N → Listing T Statement 0 first last (p .nodes) N → Whole T (statements f U first last p E N)
+  unfolding statements
+  statements-tree zero first last p E N st s = ends-tree T first last (p .nodes) N N (st .forest) s (λ i k l h c. refl)
+  statements-tree (suc f) first last p E N st s = end-tree T (eqb (kindAt (U .tokens) (p .current)) 0) _ _
+      (ends-tree T first last (p .nodes) N N (st .forest) s (λ i k l h c. refl))
+      (or-tree T first last (p .nodes) (p .current) N (topLevel U p E N) _ st s (top-reads U T c p E N (st .fits) (st .cursor)) λ n q E M st l x h.
+      let d = done-link T 0 (λ g v O. Listing T Statement 0 (firstOf first (n .node)) (n .node) v O) last (n .node) q E M st (member-link (n .node) s l x (h .child .above) (h .child .below), λ O k. member-next (n .node) (omega arith) s l x (h .root) (h .child) k) in
+      statements-tree f (firstOf first (n .node)) (n .node) q E (linked M last (n .node)) (d .done .1) (d .done .2))
+
+  -- so the kept nodes of a parsing are well-formed trees over any table that has the tokens that it finds
+  pub covered-tree : (rule errors : ℕ) (E N : List ℕ) → Whole T (parsed rule U errors E N)
+  unfolding parsed
+  covered-tree rule errors E N = statements-tree (suc (count (U .tokens))) 0 0 (freshState rule errors) E N (record { low = omega arith; fits = omega arith; cursor = omega arith; forest = forest-none T 0 N }) (inl (refl, refl))
 
 -- the kept nodes of every parsing are well-formed trees, whatever the tokens, however newlines are passed and however long the tables
 pub parsed-tree : (rule : ℕ) (U : View) (errors : ℕ) (E N : List ℕ) → Whole (U .tokens) (parsed rule U errors E N)
-unfolding parsed
-parsed-tree rule U errors E N = statements-tree (suc (count (U .tokens))) U 0 0 (freshState rule errors) E N (record { low = omega arith; fits = omega arith; cursor = omega arith; forest = forest-none (U .tokens) 0 N }) (inl (refl, refl))
+parsed-tree rule U errors E N = covered-tree U (U .tokens) (covers-self U) rule errors E N
 
 -- ---- what that says of each child and each member of its list
 abbrev Sound : List ℕ → ℕ → Column → ℕ → Type 0

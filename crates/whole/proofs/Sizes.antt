@@ -28,7 +28,7 @@ use Rattle.parser.specs.Whole.{Parsed, parsed}
 use Rattle.progress.proofs.Moves.{never}
 use Rattle.parsing.specs.Ahead.{Agree, isOutcome}
 use Rattle.parsing.proofs.Sizes.{SameParsed, parsed-sizes}
-use Rattle.parsing.proofs.Frame.{parsed-errors-kept, parsed-nodes-long}
+use Rattle.parsing.proofs.Frame.{zeroed-rest, parsed-errors-kept, parsed-nodes-zero, parsed-nodes-long}
 use Rattle.parsing.proofs.Ahead.{agree-walked, parsed-tokens, parsed-outcome}
 use Rattle.looks.proofs.Uncut.{looks-some}
 use Rattle.lines.specs.Lines.{lineWords, lineIndex}
@@ -328,6 +328,7 @@ module _ (rule : ℕ) (d : Result) (w : Well d) (t e n x : List ℕ) (tf : lengt
             errors-rest = k .rest ∙ errors-rest (r .errorCount) (k .more);
             index-rest = ap (drop (d .tokenCount)) i ∙ over-drop (d .tokenCount) X x (omega (arith, c));
             index-unchanged = λ c. never (sym c ∙ came-in rule (enteredAfter d t e n x) true p);
+            nodes-zero = λ u. parsed-nodes-zero rule (walked T) (d .errorCount) E N;
             unchanged = outcome-read (r .outcome) (parsed-outcome T rule (d .errorCount) E N);
           }
       at false p =
@@ -341,6 +342,7 @@ module _ (rule : ℕ) (d : Result) (w : Well d) (t e n x : List ℕ) (tf : lengt
             errors-rest = errors-rest (d .errorCount) (omega arith);
             index-rest = ap (drop (d .tokenCount)) i;
             index-unchanged = λ c. i;
+            nodes-zero = λ u j h. ap (λ (m : List ℕ). getD m j 0) (after-zero (d .outcome) n p u) ∙ zeroed-rest n 0 j h;
             unchanged = λ u. (ap (λ (ws : List ℕ). over ws t) (w .nothing u .0), ap (λ (ws : List ℕ). over ws e) (w .nothing u .1), after-unread (d .outcome) n u, i);
           }
 

@@ -4,7 +4,7 @@ use mathlib.Core.Path.{_≡_}
 use mathlib.Core.Bool.{Bool, true, false, _||_}
 use mathlib.Core.List.{List}
 use lib.Dec.{eqb, ltb}
-use lib.ListN.{length, take, drop}
+use lib.ListN.{length, getD, take, drop}
 use Rattle.records.specs.Outcomes.{ended}
 use Rattle.records.specs.Table.{room, tokenWidth, errorWidth, nodeWidth, indexWidth}
 use Rattle.entry.specs.Entry.{unread}
@@ -28,7 +28,7 @@ pub record SameReading (a b : Reading) : Type 0 where
   pub index-kept : came a ≡ true → take (a .tokenCount) (a .index) ≡ take (a .tokenCount) (b .index)
 
 -- what a reading leaves of the tables t, e and n and of the index x: their lengths, the words behind the kept tokens and errors, those of the index behind the words of the kept tokens, all of
--- it where no parsing came, and after 3, 4 and 13 every word
+-- it where no parsing came, and after 3, 4 and 13 every word; after any other outcome every word past the kept nodes is 0
 pub record Rest (t e n x : List ℕ) (r : Reading) : Type 0 where
   pub tokens-long : length (r .tokens) ≡ length t
   pub errors-long : length (r .errors) ≡ length e
@@ -38,6 +38,7 @@ pub record Rest (t e n x : List ℕ) (r : Reading) : Type 0 where
   pub errors-rest : drop (errorWidth * r .errorCount) (r .errors) ≡ drop (errorWidth * r .errorCount) e
   pub index-rest : drop (r .tokenCount) (r .index) ≡ drop (r .tokenCount) x
   pub index-unchanged : came r ≡ false → r .index ≡ x
+  pub nodes-zero : unread (r .outcome) ≡ false → (i : ℕ) → nodeWidth * r .nodeCount ≤ i → getD (r .nodes) i 0 ≡ 0
   pub unchanged : unread (r .outcome) ≡ true → (r .tokens ≡ t) × (r .errors ≡ e) × (r .nodes ≡ n) × (r .index ≡ x)
 
 -- the counts keep to the rooms of the tables t, e and n, and where parsing came to that of the index x
