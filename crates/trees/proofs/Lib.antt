@@ -3,3 +3,4 @@ pub mod TreeTyping
 pub mod TreeLists
 pub mod TreeReaders
 pub mod Trees
+pub mod Kept

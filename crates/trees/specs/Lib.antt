@@ -1,1 +1,2 @@
 pub mod Trees
+pub mod Kept
