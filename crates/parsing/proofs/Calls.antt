@@ -19,9 +19,9 @@ use Rattle.parser.specs.Tokens.{View, kindAt, checkAt, matchesAt}
 use Rattle.parser.specs.Tables.{Reply, reply, freshState, looped, plain, pushNode, pushError, ifSeen, andThen, consumeAt, requireAt}
 use Rattle.parser.specs.Programs.{Reader, Which, Declaration, Prog, give, stop, _>>=_, _>>_, look, check, atEnd, previous, node, link, fail, failAt, consume, require, enterLoop, leaveLoop, giveBack, insideLoop, inFunction, down, raised, either, restored, run}
 use Rattle.parser.proofs.Push.{push-nodes, push-errors}
-use Rattle.parsing.specs.Calls.{Name, script, called, lambda, Call, nameOf, sameName, withLoops, Named, named, unequal, NamedReader, thenNamed, ifNamed, eitherNamed, leave, runNamed, lowerNamed, NamedParse, came, unequalNames, topNamed, orStops, eitherParse, leaveScript, statementsNamed, parsedNamed}
+use Rattle.parsing.specs.Calls.{Name, script, called, lambda, Call, nameOf, sameName, withLoops, Named, named, unequal, NamedReader, thenNamed, ifNamed, eitherNamed, leave, runNamed, lowerNamed, NamedParse, came, unequalNames, topNamed, orStops, eitherParse, statementsNamed, parsedNamed}
 use Rattle.parser.specs.Grammar.{firstOf, body, lower}
-use Rattle.parser.specs.Whole.{Parsed, ends, topLevel, orEnds, ifEnd, statements, parsed}
+use Rattle.parser.specs.Whole.{Parsed, topLevel, orEnds, ifEnd, statements, parsed}
 
 -- the answer with names, and the answer without: the same, but that the loop count stands on top of the stack; with a node the functions on the stack are those of before
 pub data Agree (cs : List Call) : Named → Reply → Type 0 where

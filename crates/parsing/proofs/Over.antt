@@ -1,5 +1,5 @@
 -- A kind over 49 matches nothing. A lent token table may have such kinds: no test of any reader finds such a token, none passes it, and a parsing whose tokens have one before EOF does not reach its end. Assumes nothing.
-use mathlib.Core.Path.{_≡_, refl, sym, ap, _∙_}
+use mathlib.Core.Path.{_≡_, refl, ap}
 use mathlib.Core.Bool.{Bool, true, false, _&&_}
 use mathlib.Core.List.{List}
 use mathlib.Core.Logic.{⊎-elim}
@@ -17,11 +17,10 @@ use Rattle.parser.specs.declared.Got.the-variants.{Node, Stop}
 use Rattle.parser.specs.declared.Seen.{Seen}
 use Rattle.parser.specs.declared.Seen.the-variants.{At, Nothing}
 use Rattle.parser.specs.Tokens.{View, count, kindAt, after, walked, skipLines, seenIf, checkAt, matchesAt}
-use Rattle.parser.specs.Tables.{Reply, reply, freshState, looped, pushNode, pushError, ifSeen, andThen, consumeAt, requireAt}
+use Rattle.parser.specs.Tables.{Reply, reply, freshState, looped, pushError, ifSeen, andThen, consumeAt, requireAt}
 use Rattle.parser.specs.Programs.{Reader, Which, Declaration, Prog, give, stop, _>>=_, _>>_, look, check, atEnd, previous, node, link, fail, failAt, consume, require, enterLoop, leaveLoop, giveBack, insideLoop, inFunction, down, either, restored, run}
 use Rattle.parser.specs.Grammar.{firstOf, body, lower}
 use Rattle.parser.specs.Whole.{Parsed, topLevel, orEnds, ifEnd, statements, parsed}
-use Rattle.parser.proofs.Look.{skip-end, after-in}
 use Rattle.parser.proofs.Push.{push-node, push-error}
 use Rattle.lines.proofs.Agrees.{walked-within}
 use Rattle.progress.proofs.Moves.{never}

@@ -1,5 +1,5 @@
 -- The kinds of tokens that a reader asks for: those of the token type but EOF. A lent table may have others, and they match nothing.
-use Prim.Native.Nat.{ℕ, _≤_, _<_}
+use Prim.Native.Nat.{ℕ, _<_}
 use mathlib.Core.Path.{_≡_}
 use mathlib.Core.Bool.{Bool, _&&_}
 use mathlib.Core.List.{List}

@@ -11,10 +11,10 @@ use lib.Seq.{getD-take, length-take-le}
 use Rattle.token.specs.Kind.{EOF}
 use Rattle.records.specs.Table.{room, field, tokenWidth, errorWidth, nodeWidth}
 use Rattle.records.proofs.Room.{room-fits, fits-room, room-length, lt-or-le}
-use Rattle.records.proofs.Field.{field-room, field-none}
+use Rattle.records.proofs.Field.{field-room}
 use Rattle.lexer.specs.Lex.{Result, lexedOf}
 use Rattle.lexing.proofs.Answer.{tokens-within}
-use Rattle.parser.specs.Tokens.{View, count, kindAt, walked, skipLines}
+use Rattle.parser.specs.Tokens.{count, kindAt, walked, skipLines}
 use Rattle.parser.specs.Whole.{parsed}
 use Rattle.lines.proofs.Agrees.{eof-apart, walked-within}
 use Rattle.entry.specs.Ways.{withOutcome}
@@ -24,7 +24,7 @@ use Rattle.whole.proofs.Sizes.{Well, well, over-agree, over-keeps}
 use Rattle.whole.proofs.Rooms.{lexed-rooms}
 use Rattle.whole.proofs.Ends.{by-end}
 use Rattle.trees.specs.Trees.{shapeOf, Spot, Tree}
-use Rattle.trees.specs.Kept.{tokensBefore, Refers, KeptTree}
+use Rattle.trees.specs.Kept.{tokensBefore, KeptTree}
 use Rattle.trees.proofs.TreeRows.{forest-none}
 use Rattle.trees.proofs.TreeTyping.{Covers}
 use Rattle.trees.proofs.Trees.{Whole, covered-tree}
