@@ -61,7 +61,7 @@ fn rust(text: &str) -> String {
     out
 }
 
-/// What follows a clause that begins on this line and may go on behind it: braces are in pairs.
+/// What follows a clause that begins on this line and may go on after it: braces are in pairs.
 fn behind_clause<'a>(line: &str, behind: &'a str) -> &'a str {
     let mut depth = braces(line);
     let mut rest = behind;

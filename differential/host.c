@@ -21,8 +21,8 @@
  *                                         after 4 and 5; count times five words and the token, error,
  *                                         node and index words follow
  * Each table lies between guards; intact is 1 if all of them are as they were, else 0. After 5 steady
- * is 1 if the read behind the final answer gave it again and changed nothing, and the parser's rule and
- * way are those that were set; behind 13, which is no final answer, if the parser is as it was set, and
+ * is 1 if the read after the final answer gave it again and changed nothing, and the parser's rule and
+ * way are those that were set; after 13, which is no final answer, if the parser is as it was set, and
  * the read answered 18 and changed nothing. The count is that of the answers 19: tokens, errors, nodes,
  * first statement and looks of each follow. After 4 they are 1 and 0.
  *
@@ -129,7 +129,7 @@ static void get(void *to, usize length) {
     }
 }
 
-/* A table of that many words, filled, with a guard before and behind it. */
+/* A table of that many words, filled, with a guard before and after it. */
 static void lay(u32 *table, usize words, u32 fill) {
     for (usize i = 0; i < words + 2 * GUARD; i++)
         table[i] = i < GUARD || i >= GUARD + words ? GUARD_WORD : fill;

@@ -12,7 +12,7 @@ use std::{env, fs};
 /// What takes the place of a text, and how often that text stands in the file.
 type Edit = (&'static str, &'static str, usize);
 
-/// Rule two: a name may have digits behind its first byte, and a number with a point may end the script.
+/// Rule two: a name may have digits after its first byte, and a number with a point may end the script.
 const RULE_TWO_LEXER: &[Edit] = &[
     (
         "while !self.is_at_end() && self.is_alpha(self.next()) {",

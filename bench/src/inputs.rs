@@ -99,8 +99,8 @@ fn is_read(script: &str) -> bool {
     reading.stop == Stop::None && reading.errors.is_empty()
 }
 
-/// The scripts that the comparison with the original makes: short names and a blank behind each
-/// token, so that most of it is work for the parser. Each is read by itself and behind the one
+/// The scripts that the comparison with the original makes: short names and a blank after each
+/// token, so that most of it is work for the parser. Each is read by itself and after the one
 /// before it, with which it may make one statement.
 fn dense() -> String {
     let mut maker = Maker {
@@ -161,13 +161,13 @@ fn texts(phrase: &str) -> String {
     unit.repeat(LONG / unit.len())
 }
 
-/// So many statements, with fifty blank lines behind each but the last.
+/// So many statements, with fifty blank lines after each but the last.
 fn blank_lines(count: usize) -> String {
     let statement = "pipes = pipes + 1";
     vec![statement; count].join(&"\n".repeat(51)) + "\n"
 }
 
-/// A statement, and nothing behind it.
+/// A statement, and nothing after it.
 fn trailing() -> String {
     "pipes = pipes + 1\n".to_string() + &"\n".repeat(2_000)
 }
@@ -175,7 +175,7 @@ fn trailing() -> String {
 /// An even number, since each two of them are a statement and one left over is an error.
 const LINES: usize = 65_000;
 
-/// As much of the mixed script as there is room for, and nothing behind it.
+/// As much of the mixed script as there is room for, and nothing after it.
 fn mixed_and_lines() -> String {
     mixed::script(LONG - LINES) + &"\n".repeat(LINES)
 }

@@ -17,8 +17,8 @@ pub struct Parts {
 }
 
 impl Parts {
-    /// The parts of a reading of each script in turn. A state has a copy of the script; that it is
-    /// made is not timed.
+    /// The parts of a reading of each script in turn. A state has a copy of the script; the making of
+    /// that copy is not timed.
     pub fn of(scripts: &[String]) -> Parts {
         let mut sum = Parts::default();
         for script in scripts {

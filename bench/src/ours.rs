@@ -31,7 +31,7 @@ impl Reader for Library {
 pub struct SameText;
 
 impl Reader for SameText {
-    // The library is behind a call too.
+    // The library is reached by a call too.
     #[inline(never)]
     fn scan(source: &[u8], tokens: &mut [u32], errors: &mut [u32]) -> [u32; 3] {
         let s = same::reader::kettleplume_scan(rule::ONE, source, tokens, errors);

@@ -1,9 +1,9 @@
-//! Demand 3 by running: pairs of scripts that its premise permits are read alike, at every word,
-//! and what changes a reading is refused, by each rule.
+//! Blacking out (`docs/RULES.md`, 'Blacking out') by running: pairs of scripts that its premise permits
+//! are read alike, at every word, and what changes a reading is refused, by each rule.
 //!
 //! `differential blackout COUNT SEED` tries random pairs on the original's whole reading and on the
-//! library's. What the premise is, and the pairs that the Rattle definition is held against, stands in
-//! `vectors::blackout`.
+//! library's. `vectors::blackout` has the premise, and the pairs that the Rattle definition is held
+//! against.
 
 use std::collections::BTreeMap;
 use std::fmt::{self, Write as _};
@@ -241,14 +241,14 @@ fn alike(readings: [&Result<Tables, String>; 2]) -> Result<u32, String> {
 }
 
 /// The library's reading, into tables that were filled with one word: the kept tokens and errors, the
-/// index of the tokens where they were parsed, whether the words behind them are as they were, and the
+/// index of the tokens where they were parsed, whether the words after them are as they were, and the
 /// whole node table.
 fn tables(reading: &ReadAnswer, fill: u32) -> Result<Tables, String> {
     let kept = |table: &[u32], words: usize| {
         let (kept, behind) = table.split_at_checked(words).ok_or("more than the room")?;
         let changed = behind.iter().any(|word| *word != fill);
         if changed || !reading.intact {
-            return Err("a word behind the kept records is changed");
+            return Err("a word after the kept records is changed");
         }
         Ok(kept.to_vec())
     };

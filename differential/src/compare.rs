@@ -14,7 +14,7 @@ use expected::rules::WRONG;
 #[derive(Debug, Clone)]
 pub struct Trial {
     pub source: Vec<u8>,
-    /// Stands behind the source, where nothing may look.
+    /// Stands after the source, where nothing may look.
     pub behind: u8,
     pub calls: Vec<Call>,
 }
@@ -220,7 +220,7 @@ fn lex_differs(call: &LexCall, lexing: &Lexing, answer: &LexAnswer) -> Option<St
     }
 }
 
-/// A table must begin with these words and hold one word behind them: where it doesn't.
+/// A table must begin with these words and hold one word after them: where it doesn't.
 pub fn table_differs(table: &[u32], words: &[u32], fill: u32) -> Option<usize> {
     if let Some(rest) = table.strip_prefix(words) {
         let at = rest.iter().position(|&word| word != fill)?;
@@ -249,7 +249,7 @@ fn decode_differs(
 }
 
 /// The library's side in full: the records that it says it has kept, as far as they are in the
-/// tables, and the words behind them that have changed.
+/// tables, and the words after them that have changed.
 fn show_answer(text: &mut String, call: &LexCall, answer: &LexAnswer) {
     let (tokens, errors) = (answer.tokens as usize, answer.errors as usize);
     let token_records: &[Token] = answer.token_table.as_chunks().0;
@@ -267,7 +267,7 @@ fn show_answer(text: &mut String, call: &LexCall, answer: &LexAnswer) {
     for (name, table, kept_words) in tables {
         for (at, word) in table.iter().enumerate().skip(kept_words) {
             if *word != call.fill {
-                let _ = writeln!(text, "  behind: word {at} of the {name} table is {word:#x}");
+                let _ = writeln!(text, "  after: word {at} of the {name} table is {word:#x}");
             }
         }
     }

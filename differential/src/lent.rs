@@ -1,10 +1,10 @@
 //! Reads of one statement over parsers and tables that no call left: what the host changed between
 //! two calls, or never had from `begin`.
 //!
-//! When a read answers 18 or 13, and that it then changes nothing, is written here from document 01 and
-//! the request for rules. Where it goes on with something that no reading left, the original can't be
-//! asked: then what it answers is held to what any read keeps to, and its looks to those of the same
-//! read from 0.
+//! The conditions under which a read answers 18 or 13, and that it then changes nothing, are written here
+//! from `docs/RULES.md`, 'One statement at a time'. Where a read goes on with something that no reading
+//! left, the original can't be asked: then its answer is held to what any read keeps to, and its looks to
+//! those of the same read from 0.
 
 use std::collections::BTreeMap;
 
@@ -308,7 +308,7 @@ fn refusal(outcome: u32) -> Answer {
 fn wrong(before: &Lent, after: &Lent, answer: &Answer) -> Option<&'static str> {
     if before.parser.ended != 0 {
         let same = before == after && *answer == before.held();
-        return (!same).then_some("behind the final answer");
+        return (!same).then_some("after the final answer");
     }
     if !before.fits() {
         let same = before == after && *answer == refusal(outcome::MISMATCH);
@@ -330,8 +330,8 @@ fn wrong(before: &Lent, after: &Lent, answer: &Answer) -> Option<&'static str> {
     kept(before, after).or_else(|| carried(before, after))
 }
 
-/// A read adds its looks to those that the parser had, as far as a word counts. On nothing else have
-/// they a bearing.
+/// A read adds its looks to those that the parser had, as far as a word counts. They have no bearing on
+/// anything else.
 fn carried(before: &Lent, after: &Lent) -> Option<&'static str> {
     let mut from_zero = before.clone();
     from_zero.parser.looks = 0;
@@ -381,7 +381,7 @@ fn kept(before: &Lent, after: &Lent) -> Option<&'static str> {
 }
 
 /// Whether each of these errors has the line and the start of one of the tokens. Where the newline index
-/// leads past them it may be about what stands behind them, or about nothing.
+/// leads past them it may be about what stands after them, or about nothing.
 fn about_tokens(lent: &Lent, errors: &[u32]) -> bool {
     let tokens: &[Token] = lent.tokens.as_chunks().0;
     let mut places: Vec<_> = tokens

@@ -137,7 +137,7 @@ pub struct ReadSizes {
     pub rooms: usize,
     /// So many long scripts.
     pub long: usize,
-    /// Of the longest scripts and the levels, each that many-th.
+    /// Each that many-th of the longest scripts and of the levels.
     pub step: usize,
 }
 

@@ -10,7 +10,7 @@ use crate::compare::Trial;
 use crate::whole::{by_rules, Tried};
 use expected::lex_scripts::{KEYWORDS, MARKS, WRONG};
 
-/// So many pairs of error and node rooms are all tried; of more, some.
+/// Up to so many pairs of error and node rooms are all tried; where there are more, only some are.
 const PAIRS: usize = 120;
 
 /// Readings with each room from none to one more than is needed, the others being enough; with
@@ -83,7 +83,7 @@ pub fn exact(source: &[u8]) -> Trial {
     })
 }
 
-/// The scripts of document 01, and those that the definition is tried on.
+/// The scripts that `expected` lists. Those that the definition is tried on are among them.
 pub fn listed() -> impl Iterator<Item = Vec<u8>> {
     let plain = LISTED.into_iter().chain([MISLEXED]).flatten();
     let plain = plain.map(|text| text.to_string());
@@ -224,7 +224,7 @@ pub fn longest() -> impl Iterator<Item = Vec<u8>> {
     })
 }
 
-/// Lists and chains of the greatest length: what comes before, over and over, behind.
+/// Lists and chains of the greatest length: what comes before, over and over, and after.
 pub fn longest_lists() -> impl Iterator<Item = Vec<u8>> {
     let parts = [
         ("[", "a,", "]"),
@@ -248,7 +248,7 @@ pub fn longest_lists() -> impl Iterator<Item = Vec<u8>> {
     })
 }
 
-/// Newlines alone, and with something before or behind.
+/// Newlines alone, and with something before or after them.
 pub fn newlines() -> impl Iterator<Item = Vec<u8>> {
     // The original walks all newlines anew at each look, so that thousands take it seconds.
     let counts = (0..30).chain([99, 100, 256]);

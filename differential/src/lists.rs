@@ -84,7 +84,7 @@ pub fn longest() -> impl Iterator<Item = Vec<u8>> {
         script.extend(std::iter::repeat_n(' ', LONGEST - script.len()));
         script
     });
-    // With nothing behind it a number with a point stops the lexing by rule one.
+    // With nothing after it a number with a point stops the lexing by rule one.
     let ends = ["0", ".", "\n", "\""];
     let numbers = ends.map(|end| format!("1.{}{end}", "5".repeat(LONGEST - 3)));
     filled.chain(numbers).map(String::into_bytes)

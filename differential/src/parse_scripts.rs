@@ -132,7 +132,7 @@ impl Scripts {
         damaged(&mut self.dice, script)
     }
 
-    /// Statements with blank lines before, behind and between the tokens.
+    /// Statements with blank lines before, after and between the tokens.
     pub fn blank_lines(&mut self) -> Vec<u8> {
         let tokens = match self.dice.below(3) {
             0 => self.maker.lines(),
@@ -179,7 +179,7 @@ impl Scripts {
         script
     }
 
-    /// Tokens with blanks between them, and in half of the scripts behind the last. Now and then a name,
+    /// Tokens with blanks between them, and in half of the scripts after the last. Now and then a name,
     /// a number or a string is another, and a comment or something that is no token stands between two.
     fn joined(&mut self, tokens: &[&str]) -> Vec<u8> {
         let mut script = String::new();

@@ -172,7 +172,7 @@ pub fn text_edge(source: &[u8]) -> Trial {
     trial
 }
 
-/// The bytes between a string before and a string behind.
+/// The bytes between a string before and a string after them.
 pub fn between_strings(bytes: Vec<u8>) -> Vec<u8> {
     [b"\"a\"".as_slice(), &bytes, b"\"b\""].concat()
 }

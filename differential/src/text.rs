@@ -1,5 +1,5 @@
-//! The text test against Rust's own: each sequence of bytes is asked of `std::str::from_utf8`, of the
-//! Standard's table as `expected` has it, and of the library.
+//! The text test against Rust's own: for each sequence of bytes `std::str::from_utf8`, the Standard's
+//! table as `expected` has it, and the library are asked.
 
 use std::collections::BTreeSet;
 use std::fmt;

@@ -289,8 +289,8 @@ fn before_differs(call: &ReadCall, expected: &Answer, answer: &ReadAnswer) -> Op
     differs.then(|| "the answers before the last".to_string())
 }
 
-/// Each table begins with these words and holds one word behind them; the guards are intact, and a
-/// read behind the final answer changed nothing.
+/// Each table begins with these words and holds one word after them; the guards are intact, and a
+/// read after the final answer changed nothing.
 fn words_differ(answer: &ReadAnswer, wanted: [(&[u32], u32); 4]) -> Option<String> {
     let tables = [
         ("token", &answer.token_table, TOKEN_WORDS),
@@ -307,7 +307,7 @@ fn words_differ(answer: &ReadAnswer, wanted: [(&[u32], u32); 4]) -> Option<Strin
     if !answer.intact {
         return Some("the guards round the tables".to_string());
     }
-    (!answer.steady).then(|| "a read behind the final answer".to_string())
+    (!answer.steady).then(|| "a read after the final answer".to_string())
 }
 
 fn refused_differs(call: &ReadCall, outcome: u32, answer: &ReadAnswer) -> Option<String> {

@@ -1,4 +1,4 @@
-//! Demand 3's premise: a sample of random pairs, by the original.
+//! The premise of blacking out: a sample of random pairs, by the original.
 
 use differential::blackout::blackout;
 use vectors::blackout::premise::{Clause, CLAUSES};

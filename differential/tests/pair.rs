@@ -1,5 +1,5 @@
-//! One statement at a time. That the calls come to the whole reading is compared with every reading
-//! of `read.rs`; here are parsers and tables that no call left.
+//! One statement at a time. Every reading of `read.rs` compares that the calls come to the whole reading.
+//! Here are parsers and tables that no call left.
 
 use differential::lent::{damaged, Lent, KINDS, READ};
 use expected::records::outcome::{DONE, MISMATCH, MORE, STOPPED, WRONG_RULE};
@@ -121,8 +121,8 @@ fn looks_are_carried_on() {
     }
 }
 
-/// From a Newline a read goes on where the word leads that it is lent, if that is not back; and any word
-/// ends the read, which leaves the index as it is.
+/// From a Newline a read goes on where the lent word leads, if that is not back. With any word the read
+/// comes to its end, and it leaves the index as it is.
 #[test]
 fn any_word_is_followed_forwards() {
     // The tokens are a bracket, a Newline, two names, a bracket, a Newline and EOF. Where no expression

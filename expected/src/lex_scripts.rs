@@ -87,7 +87,7 @@ fn piece(dice: &mut Dice, script: &mut String) {
 }
 
 /// A name that is near a keyword: longer, shorter, with another letter or in capitals, or with a digit
-/// in it or behind it, which rule one doesn't have in names.
+/// in it or after it, which rule one doesn't have in names.
 pub fn name(dice: &mut Dice, script: &mut String) {
     let keyword = dice.pick(&KEYWORDS);
     let letter = char::from(b"abfnstz_AZ"[dice.below(10)]);

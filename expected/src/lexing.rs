@@ -172,7 +172,7 @@ fn record(token: &TokenData, start: usize) -> Token {
 }
 
 /// The line where a token begins, which the original doesn't keep: its counter was raised by the new
-/// lines of the token since. (A string that closes has none behind a backslash.)
+/// lines of the token since. (A string that closes has none after a backslash.)
 fn begins(token: &TokenData) -> u32 {
     token.line as u32 - token.lexeme.matches('\n').count() as u32
 }
@@ -267,7 +267,7 @@ impl<'a> Walk<'a> {
         }
     }
 
-    /// The length of the broken string here: up to the byte behind a wrong backslash, or the end.
+    /// The length of the broken string here: up to the byte after a wrong backslash, or the end.
     fn broken(&self) -> usize {
         let string = &self.source[self.at..];
         let mut length = 1;

@@ -16,8 +16,8 @@ pub mod scripts;
 pub mod spellings;
 pub mod whole;
 
-/// Document 01's numbers by name: the Rust crate's own file, so that there is one definition, though
-/// this crate links no library.
+/// The numbers of `docs/RULES.md` by name: the Rust crate's own file, so that there is one definition,
+/// though this crate links no library.
 #[path = "../../kettleplume/src/records.rs"]
 pub mod records;
 

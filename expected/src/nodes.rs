@@ -1,4 +1,4 @@
-//! Trees of the original as node records of document 01.
+//! Trees of the original as node records (`docs/RULES.md`, 'Nodes').
 //!
 //! A node's number is its place in the order in which nodes are finished. The original keeps no
 //! such order, but its trees fix it: they are walked as the parser read them. On `=` the nodes
@@ -35,7 +35,7 @@ impl<'a> Nodes<'a> {
         self.nodes.len() as u32
     }
 
-    /// The later node comes behind the earlier one in a list.
+    /// The later node comes after the earlier one in a list.
     fn link(&mut self, earlier: u32, later: u32) {
         if earlier != 0 {
             self.nodes[earlier as usize - 1][node::NEXT] = later;
@@ -326,7 +326,7 @@ impl<'a> Nodes<'a> {
         self.push(kind::ACCESS, &tokens, &[object, first, second, third])
     }
 
-    /// Whether `]` comes behind the token with this reference, newlines aside.
+    /// Whether `]` comes after the token with this reference, newlines aside.
     fn closes_after(&self, reference: u32) -> bool {
         self.tokens[reference as usize..]
             .iter()

@@ -1,5 +1,6 @@
-//! Scripts that each show something: those of document 01, each form of statement and expression,
-//! each message, newlines, left sides of `=`, small tables, both rules and levels.
+//! Scripts that each show something: those on each side of a line (`docs/RULES.md`, 'Parsing'), each form
+//! of statement and expression, each message, newlines, left sides of `=`, small tables, both rules and
+//! levels.
 
 /// An inner text in a number of brackets.
 pub fn around(open: &str, count: usize, inner: &str, close: &str) -> String {
@@ -17,13 +18,13 @@ pub fn bytes(text: &str) -> Vec<u8> {
     text.chars().map(byte).collect()
 }
 
-/// Document 01, the scripts marked *.
+/// The scripts that `docs/RULES.md`, 'Parsing', marks *.
 pub const STARS: &[&str] = &[
     "", "\n", "\n\n", "a\n\n", "a1", "2^3^2", "-2^2", "a\n(b)", "1.5", "1.5\n", "{return}", "1=2",
     "break", "\"\\q\"",
 ];
 
-/// Document 01, the scripts without *, save for those of counts and levels.
+/// Others on each side of a line, save for those of counts and levels, and the worked example of an outline.
 pub const UNSTARRED: &[&str] = &[
     "while y {}\nbreak",
     "for x in y {}\nbreak",
@@ -317,7 +318,7 @@ pub const INDEXED: &[(&str, [u32; 2], [usize; 4], [[usize; 3]; 2])] = &[
     ("a @\n", [6, 6], [3, 0, 2, 0], [[1, 0, 0]; 2]),
     ("a\n", [5, 5], [2, 0, 2, 1], [[2, 0, 0]; 2]),
     ("a\n1.5", [2, 2], [2, 0, 2, 0], [[2, 0, 0]; 2]),
-    // Parsing comes behind it.
+    // Parsing comes after it.
     (")", [10, 10], [3, 0, 0, 2], [[3, 0, 0]; 2]),
     (")", [6, 6], [3, 0, 0, 3], [[3, 0, 0]; 2]),
     (")", [1, 1], [3, 1, 0, 3], [[3, 1, 0]; 2]),
@@ -325,7 +326,7 @@ pub const INDEXED: &[(&str, [u32; 2], [usize; 4], [[usize; 3]; 2])] = &[
     ("\n\na", [7, 7], [5, 0, 0, 5], [[5, 0, 0]; 2]),
 ];
 
-/// Scripts in which the rules differ, or might: names, numbers at the end, and what stands in and behind
+/// Scripts in which the rules differ, or might: names, numbers at the end, and what stands in and after
 /// an enhanced for. A character is a byte.
 pub const RULED: &[&str] = &[
     "a1",

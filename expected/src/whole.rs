@@ -1,9 +1,8 @@
 //! What a whole reading comes to, for tables of any size.
 //!
-//! The records come from the unchanged original. In which order nodes, errors and levels come it
-//! doesn't tell, nor which token an error of the parser is about, nor how many looks there were: that is
-//! the log of its copy with calls put in (`oracle::logged`), which has to agree with it in everything
-//! else.
+//! The records come from the unchanged original. It doesn't tell in which order nodes, errors and levels
+//! come, nor which token an error of the parser is about, nor how many looks there were. The log of its
+//! copy with calls put in (`oracle::logged`) tells that, and has to agree with it in everything else.
 
 use oracle::logged::{self, Event, Log, Noted};
 use oracle::state::InterpreterError;
@@ -59,7 +58,7 @@ pub fn index(tokens: &[Token]) -> Vec<u32> {
     let mut words = vec![];
     for (at, record) in tokens.iter().enumerate() {
         if record[token::KIND] != NEWLINE {
-            // It is the first behind all those that have no word yet.
+            // It is the first after all those that have no word yet.
             words.resize(at + 1, at as u32 + 1);
         }
     }
@@ -81,7 +80,7 @@ pub struct Answer {
     /// How many top-level statements are kept.
     pub statements: usize,
     /// How many errors, nodes and looks there are whenever a token before EOF is left to be read:
-    /// before the first statement, and behind others.
+    /// before the first statement, and after others.
     pub so_far: Vec<[u32; 3]>,
 }
 
@@ -318,12 +317,12 @@ impl Parsing {
             }
         }
         if ended == outcome::DONE {
-            // Behind the last one comes EOF.
+            // After the last one comes EOF.
             so_far.pop();
         }
         let mut nodes = self.nodes[..kept].to_vec();
         if let Some(last) = nodes.last_mut() {
-            // What came behind it isn't kept.
+            // What came after it isn't kept.
             last[node::NEXT] = 0;
         }
         Answer {

@@ -28,7 +28,7 @@ fn words_of_some_scripts() {
         ("a = 1\n", &[1, 2, 3, 5, 5]),
         // Parsing that stops leaves the whole index.
         (")\n\na", &[1, 4, 4, 4, 6, 6]),
-        // A newline in a string or behind a comment is none, or a token of its own.
+        // A newline in a string or after a comment is none, or a token of its own.
         ("\"a\n\nb\"\n", &[1, 3, 3]),
         ("# a\n\nb", &[3, 3, 3, 5, 5]),
         // Parsing isn't reached.

@@ -26,7 +26,7 @@ fn listed_scripts() {
 
 /// What comes before an expression in a statement that is one: the tests for all other statements.
 const BEFORE: u32 = 3 + 8;
-/// What comes behind an operand: the tests for calls, for operators of each level, and for `=`.
+/// What comes after an operand: the tests for calls, for operators of each level, and for `=`.
 const BEHIND: u32 = 3 + OPERATORS + 1;
 const OPERATORS: u32 = 1 + 3 + 2 + 4 + 2 + 1 + 1;
 /// A prefix is tested for before an operand.
@@ -54,7 +54,7 @@ fn each_reader() {
         ("a\n", BEFORE + PREFIX + 6 + BEHIND + NEWLINE),
         ("(a)\n", BEFORE + PREFIX + 7 + NAME + 1 + BEHIND + NEWLINE),
         ("this\n", BEFORE + PREFIX + 11 + BEHIND + NEWLINE),
-        // A list and a call: the closing mark, each element's comma, the mark behind it, the mark.
+        // A list and a call: the closing mark, each element's comma, the mark after it, the mark.
         (
             "[a, b,]\n",
             BEFORE + PREFIX + 8 + 1 + (NAME + 2) + (NAME + 2) + 1 + BEHIND + NEWLINE,
@@ -116,7 +116,7 @@ fn each_reader() {
             "a[::c]\n",
             BEFORE + PREFIX + 6 + 3 + (1 + 1 + NAME) + 1 + BEHIND + NEWLINE,
         ),
-        // Operators: the tighter levels first, and behind the right side those that may follow.
+        // Operators: the tighter levels first, and after the right side those that may follow.
         (
             "a or b\n",
             BEFORE + (PREFIX + 6 + 3) + OPERATORS + (PREFIX + 6 + 3) + OPERATORS + 1 + NEWLINE,
@@ -175,7 +175,7 @@ fn each_reader() {
             "for let a; a; b c\n",
             (3 + 1) + 3 + (1 + 1) + 1 + NAME + 1 + NAME + NAMED + NEWLINE,
         ),
-        // The block behind else is closed twice: tested for, and consumed.
+        // The block after else is closed twice: tested for, and consumed.
         (
             "if a { b } elif c { d } else { e }\n",
             (3 + 3)

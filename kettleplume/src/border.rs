@@ -10,7 +10,8 @@ use crate::options::Options;
 #[repr(C)]
 #[derive(Debug, Clone, Copy, PartialEq, Eq, Default)]
 pub struct Answer {
-    /// Document 01's number: 0 to 8, 10, 11 and 13, for a read of one statement also 18 and 19.
+    /// The number of the outcome: 0 to 8, 10, 11 and 13, for a read of one statement also 18 and 19
+    /// (`docs/RULES.md`, 'Outcomes').
     pub outcome: u32,
     /// How many token records are kept.
     pub tokens: u32,
@@ -29,7 +30,7 @@ pub struct Answer {
 #[repr(C)]
 #[derive(Debug, Clone, Copy, PartialEq, Eq, Default)]
 pub struct Scanned {
-    /// Document 01's number: 0, 2 to 6 or 13.
+    /// The number of the outcome: 0, 2 to 6 or 13 (`docs/RULES.md`, 'Outcomes').
     pub outcome: u32,
     /// How many token records are kept.
     pub tokens: u32,
@@ -41,7 +42,7 @@ pub struct Scanned {
 #[repr(C)]
 #[derive(Debug, Clone, Copy, PartialEq, Eq, Default)]
 pub struct Decoded {
-    /// Document 01's number: 0, 3, 4, 9 or 10.
+    /// The number of the outcome: 0, 3, 4, 9 or 10 (`docs/RULES.md`, 'Decoding').
     pub outcome: u32,
     /// How many bytes of the buffer are the decoded text.
     pub length: usize,
@@ -80,14 +81,14 @@ pub struct Parser {
     pub looks: u32,
 }
 
-/// Reads a source into three tables and the newline index: what it makes of it, and every word of them
-/// afterwards, is fixed by the definition `reading` for any rule, any way, any bytes and tables of any
-/// size.
+/// Reads a source into three tables and the newline index. The definition `reading` fixes what it makes of
+/// the source, and every word of the tables and the index afterwards, for any rule, any way, any bytes and
+/// tables of any size.
 ///
 /// The index has a word for each token, the reference of the first token from there on that is no Newline.
 /// It is written once, between lexing and parsing, so that parsing doesn't walk the same blank lines at
-/// each look. Where it has fewer words than there are tokens the answer is 10, and nothing is parsed; what
-/// ends before parsing leaves it as it was, and any other answer the words of all tokens.
+/// each look. Where it has fewer words than there are tokens the answer is 10, and nothing is parsed. A
+/// reading that ends before parsing leaves it as it was; after any other it has the words of all tokens.
 ///
 /// [`rule`](crate::records::rule) has the rules' numbers; any other is refused with 13, before all else,
 /// and nothing is changed. [`way`](crate::records::way) has the ways'; any number but 0 is the old way.
@@ -176,7 +177,7 @@ impl Parser {
     }
 
     /// Reads one top-level statement, over the source, the tables and the index as the last call left
-    /// them. 19 says that there is another; 18, that parser, tables and index don't go together, and 13,
+    /// them. 19 says that there is another; 18, that parser, tables and index don't fit together, and 13,
     /// that the rule is none, and nothing is changed; any other answer is final, and is given again from
     /// then on.
     ///

@@ -1,4 +1,4 @@
-//! What can come of a call, by document 01's numbers, in words.
+//! What can come of a call, by the numbers of the outcomes (`docs/RULES.md`, 'Outcomes'), in words.
 
 use std::fmt;
 
@@ -6,13 +6,13 @@ use crate::records::outcome;
 
 /// Why a reading did not come to the end of its script, or why a call was refused.
 ///
-/// A script whose reading ends (document 01's outcome 0) has no such error, though it may have
+/// A script whose reading comes to the end (outcome 0) has no such error, though it may have
 /// recorded ones, with a message and a place: [`Recorded`](crate::Recorded).
 #[derive(Debug, Clone, Copy, PartialEq, Eq, Hash)]
 pub enum Error {
     /// 1: a mistake after which the rest can't be read. The last recorded error says which.
     Stopped,
-    /// 2: a number with a point runs to the last byte of the script. Rule two doesn't know it.
+    /// 2: a number with a point runs to the last byte of the script. By rule two it doesn't occur.
     PointAtEnd,
     /// 3: the bytes are no text, which is what Rust takes as a `str`.
     NoText,
@@ -35,12 +35,12 @@ pub enum Error {
     NotParsed,
     /// 13: the number that was given names no rule.
     WrongRule,
-    /// 18: the parser and the tables that were lent don't go together.
+    /// 18: the parser and the tables that were lent don't fit together.
     Mismatch,
-    /// No number of document 01's: the records are whole, but as trees, which repeat what records
+    /// No outcome, so it has no number: the records are whole, but as trees, which repeat what records
     /// share, they would be larger than [`TREE_LIMIT`](crate::TREE_LIMIT) nodes.
     TreesTooLarge,
-    /// No number of document 01's: the tokens in a state are not those of the state's source.
+    /// No outcome, so it has no number: the tokens in a state are not those of the state's source.
     OtherTokens,
 }
 
@@ -69,7 +69,7 @@ impl Error {
             .find(|error| error.number() == Some(outcome))
     }
 
-    /// Document 01's number.
+    /// The number of the outcome, if it is one.
     pub fn number(self) -> Option<u32> {
         Some(match self {
             Error::Stopped => outcome::STOPPED,

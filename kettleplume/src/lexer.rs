@@ -17,7 +17,7 @@ impl Lexer<'_> {
         Lexer { line: None, state }
     }
 
-    /// Lexes the state's source: tokens and errors are put behind those that the state has.
+    /// Lexes the state's source: tokens and errors are put after those that the state has.
     ///
     /// A second call finds nothing more to read, and closes the tokens once more, as the original
     /// does.

@@ -19,15 +19,15 @@
 //! let script = kettleplume::read("let stop = \"Gemshorn\"\nprint(stop) print\n");
 //! assert_eq!(script.end, Ok(()));
 //! assert!(matches!(script.stmts[0], Stmt::Let(_)));
-//! // Reading goes on behind most errors, as it does in the original.
+//! // Reading goes on after most errors, as it does in the original.
 //! assert_eq!(script.errors[0].message, "Expected new line");
 //! // Each error has its place: the second `print`.
 //! assert_eq!((script.errors[0].line, script.errors[0].column), (2, 13));
 //! assert_eq!(script.stmts.len(), 3);
 //! ```
 //!
-//! [`Script::end`] says whether reading came to the end of the script, and if not why. Who reads many
-//! scripts keeps [`Tables`] for them: [`read_with`].
+//! [`Script::end`] says whether reading came to the end of the script, and if not why. A program that
+//! reads many scripts keeps [`Tables`] for them: [`read_with`].
 //!
 //! An error in the words and marks themselves, as a string that isn't closed, makes the parser record
 //! others that only follow from it. So the statements of such a script are not read, unless that is
@@ -69,8 +69,8 @@
 //! The state holds what the original leaves in it: the same tokens, errors and statements. Only the
 //! `pos` of the parser's errors, which in the original is always 0, is here the place in the source
 //! ([`Recorded::pos`] says which, [`Places`](places::Places) in which line and column it is). Where the
-//! original panics, these panic, since someone may catch it: behind an error after which it can't go
-//! on, and at a number with a point that runs to the last byte. The state then holds what the
+//! original panics, these panic, since someone may catch it: after an error that it can't go on from,
+//! and at a number with a point that runs to the last byte. The state then holds what the
 //! original recorded before. They also panic where only this crate gives up: a script over
 //! [`LONGEST`] bytes, more than 128 levels, trees over [`TREE_LIMIT`], and tokens that are not those
 //! of the state's source, which the parser reads anew. A panic's message is the [`Error`] in words.
@@ -90,7 +90,7 @@
 //! # The lower call
 //!
 //! The library itself allocates nothing. It fills three tables of words and an index that the caller
-//! lends, of any size, and [`border`] has its functions. Each table holds records one behind the other:
+//! lends, of any size, and [`border`] has its functions. Each table holds records one after the other:
 //!
 //! - a token is [`TOKEN_WORDS`](tables::TOKEN_WORDS) words: kind, start, length, line, value sort, two value words,
 //!   the line where it begins;

@@ -1,4 +1,4 @@
-//! The office's command: reads scripts and says what is found in them. `kettleplume --help` has how.
+//! The command: reads scripts and says what is found in them. `kettleplume --help` says how.
 
 mod command;
 

@@ -8,9 +8,9 @@ pub enum Rule {
     /// The original's.
     #[default]
     One,
-    /// The office's own: a name may have digits behind its first letter or underscore, an enhanced for
-    /// gives its loop count back, so that a `break` behind it is in no loop, and a number with a point may
-    /// end the script, so that a reading never ends with [`PointAtEnd`](crate::Error::PointAtEnd).
+    /// Our own: a name may have digits after its first letter or underscore, an enhanced for gives its
+    /// loop count back, so that a `break` after it is in no loop, and a number with a point may end the
+    /// script, so that a reading never ends with [`PointAtEnd`](crate::Error::PointAtEnd).
     Two,
 }
 

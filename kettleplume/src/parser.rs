@@ -16,7 +16,7 @@ pub struct CallStack {
 /// A parser over a state, which is used as the original's is.
 pub struct Parser<'a> {
     /// The token to be looked at next: the first, and after a reading EOF. After one that did not
-    /// come to the end, which the original leaves somewhere, it is behind the last token.
+    /// come to the end, which the original leaves somewhere, it is after the last token.
     pub current: usize,
     /// Always empty outside of a reading, as the original's is.
     pub cls: Vec<CallStack>,
@@ -33,11 +33,11 @@ impl Parser<'_> {
     }
 
     /// Parses the state's tokens, which have to be what the lexer made of its source: errors and
-    /// statements are put behind those that the state has. A second call finds nothing more to read.
+    /// statements are put after those that the state has. A second call finds nothing more to read.
     ///
     /// # Panics
     ///
-    /// Where the original does: after an error behind which it can't go on. The errors up to that
+    /// Where the original does: after an error that it can't go on from. The errors up to that
     /// one and the statements before are in the state then. And where the original doesn't:
     ///
     /// - more than 128 levels are open, or the trees would be too large: as for such an error;

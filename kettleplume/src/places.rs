@@ -37,7 +37,7 @@ impl<'a> Places<'a> {
     }
 
     /// The line, from 1, that a byte stands in. A new line stands at the end of its line. The end of the
-    /// source, which every place behind it is taken for, is in the last line: that is an empty one if
+    /// source, which every place after it is taken for, is in the last line: that is an empty one if
     /// the last byte is a new line.
     pub fn line(&self, pos: usize) -> usize {
         self.starts.partition_point(|start| *start <= pos)
@@ -45,7 +45,7 @@ impl<'a> Places<'a> {
 
     /// Which character of its line, from 1, a byte belongs to. A character that is drawn over the one
     /// before it, as some accents are, counts with that one. The end of a line, a carriage return with
-    /// it, is one behind its last character.
+    /// it, is one after its last character.
     pub fn column(&self, pos: usize) -> usize {
         self.columns[pos.min(self.source.len())]
     }
@@ -85,7 +85,7 @@ fn columns(source: &[u8]) -> Vec<usize> {
 }
 
 /// The character that bytes begin with and how many of them it is, unless there are none; U+FFFD for
-/// bytes that are none, which only a source has that was not read.
+/// bytes that are no character. Only a source that was not read has such bytes.
 pub fn first_char(bytes: &[u8]) -> Option<(char, usize)> {
     match bytes {
         [] => None,
@@ -106,7 +106,7 @@ pub fn continues(byte: u8) -> bool {
 }
 
 /// Whether a character is drawn over the one before it, as an accent that is a character of its own. The
-/// standard library tells: it escapes such a character alone, but not behind another.
+/// standard library tells: it escapes such a character alone, but not after another.
 pub fn is_drawn_over(c: char) -> bool {
     !c.is_ascii() && c.escape_debug().count() > 1 && format!("a{c}").escape_debug().eq(['a', c])
 }

@@ -24,15 +24,15 @@ pub struct Recorded {
     /// The place: a byte of the source, or the source's length, which is its end. The lexer's errors
     /// have that of the byte or string they are about. The parser's have the start of the token whose
     /// line is recorded: of the token that stands where another was expected, which may be a new line
-    /// or the end; of `break` or `continue`; of the `=` behind what can't be assigned to.
+    /// or the end; of `break` or `continue`; of the `=` after what can't be assigned to.
     pub pos: usize,
     /// The line of the file that the place is in, from 1.
     pub line: usize,
     /// Which character of that line the place is, from 1: see [`Places::column`].
     pub column: usize,
     /// The line that the original records. It is another where the place is a new line, which the
-    /// original counts to the line behind it, or a string of several lines, which it counts to its
-    /// last; and its count falls behind the file's at a new line behind a wrong backslash in a string.
+    /// original counts to the line after it, or a string of several lines, which it counts to its
+    /// last; and its count falls behind the file's at a new line after a wrong backslash in a string.
     pub recorded_line: usize,
 }
 

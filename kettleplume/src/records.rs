@@ -1,5 +1,5 @@
-//! Document 01's numbers by name: how many words a record has and what stands in each, the kinds of
-//! nodes, the outcomes, the rules, the ways to read and some messages.
+//! The numbers of `docs/RULES.md` by name: how many words a record has and what stands in each, the
+//! kinds of nodes, the outcomes, the rules, the ways to read and some messages.
 //!
 //! These are the only definitions on the Rust side. The crates that compare with the original compile
 //! this file too, and hand the widths on to what they compile of C.
@@ -38,7 +38,7 @@ pub mod token {
     /// How many bytes of the source it is.
     pub const LENGTH: usize = 2;
     /// Its line, as the original counts it: of a string the line that it ends in, of a new line the
-    /// line behind it.
+    /// line after it.
     pub const LINE: usize = 3;
     /// The line where it begins, as the original counts it: what its counter was when the token's
     /// first byte was met. The original keeps no such number.
@@ -159,7 +159,7 @@ pub mod outcome {
     pub const NOT_PARSED: u32 = 11;
     /// The number that was given names no rule.
     pub const WRONG_RULE: u32 = 13;
-    /// The parser and the tables that were lent don't go together.
+    /// The parser and the tables that were lent don't fit together.
     pub const MISMATCH: u32 = 18;
     /// There is another statement to read.
     pub const MORE: u32 = 19;
@@ -169,7 +169,7 @@ pub mod outcome {
 pub mod rule {
     /// The original's.
     pub const ONE: u32 = 1;
-    /// Names may have digits behind the first byte, an enhanced for gives its loop count back, and a
+    /// Names may have digits after the first byte, an enhanced for gives its loop count back, and a
     /// number with a point may end the script.
     pub const TWO: u32 = 2;
 }
@@ -178,7 +178,7 @@ pub mod rule {
 pub mod way {
     /// It stops before parsing.
     pub const STOP: u32 = 0;
-    /// It parses all the same. So it does for every number but 0.
+    /// It parses all the same. Every number but 0 means this way.
     pub const GO_ON: u32 = 1;
 }
 

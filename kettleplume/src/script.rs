@@ -24,7 +24,7 @@ pub struct Script {
     /// All tokens, from the first to EOF.
     pub tokens: Vec<TokenData>,
     /// The line where each of them begins, counted as its own line is: a string's line is the one that
-    /// it ends in, a new line's the one behind it.
+    /// it ends in, a new line's the one after it.
     pub begins: Vec<i32>,
     /// What the original records as errors, each with its place: the lexer's, then the parser's.
     pub errors: Vec<Recorded>,
@@ -43,7 +43,7 @@ pub struct Script {
     /// - [`PointAtEnd`](Error::PointAtEnd), where the original panics too: tokens and errors before
     ///   that number are there, and no statement. By rule two there is no such end.
     /// - [`NoText`](Error::NoText) and [`TooLong`](Error::TooLong): nothing is there.
-    /// - [`TreesTooLarge`](Error::TreesTooLarge): as for a stop. If reading stopped as well, behind
+    /// - [`TreesTooLarge`](Error::TreesTooLarge): as for a stop. If reading stopped as well, after
     ///   those statements, the last error tells it.
     pub end: Result<(), Error>,
 }
@@ -58,13 +58,13 @@ pub struct Script {
 /// assert_eq!(script.stmts.len(), 1);
 /// ```
 ///
-/// How much there was to do is told by the looks: one each time that a token is tested for.
+/// The looks tell how much there was to do: one each time that a token is tested for.
 ///
 /// ```
 /// assert_eq!(kettleplume::read("stop\n").looks, 38);
 /// ```
 ///
-/// A string of several lines has the last of them as its line; where it begins stands beside it.
+/// A string of several lines has the last of them as its line; the line where it begins stands beside it.
 ///
 /// ```
 /// let script = kettleplume::read("let remark = \"Boots new,\nreeds old.\"\n");
@@ -136,7 +136,7 @@ pub(crate) fn statements(
 ) -> (Vec<Stmt>, Result<(), Error>) {
     let first = records.answer.first;
     let unfolded = unfold::statements_within(TREE_LIMIT as u64, records.nodes, tokens, first);
-    // That the library's tables are well formed is proved, so there is nothing to tell here.
+    // It is proved that the library's tables are well formed, so there is nothing to tell here.
     let (stmts, all) = unfolded.unwrap_or_else(|wrong| panic!("the library's nodes: {wrong}"));
     let end = match all {
         true => ended(records.answer.outcome),

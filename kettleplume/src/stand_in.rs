@@ -11,7 +11,7 @@ use crate::values;
 
 /// Lexes the state's source, as `Lexer::new(&mut state).scan()` does, but answers where that panics.
 ///
-/// Tokens and errors are put behind those that the state has.
+/// Tokens and errors are put after those that the state has.
 ///
 /// ```
 /// use kettleplume::state::InterpreterState;
@@ -53,7 +53,7 @@ pub(crate) fn lex(rule: Rule, state: &mut InterpreterState) -> (Result<(), Error
     (end, line)
 }
 
-/// Adds what the original puts behind the last token: a Newline, if there is any token and none of
+/// Adds what the original puts after the last token: a Newline, if there is any token and none of
 /// them comes last, and EOF.
 pub(crate) fn close(tokens: &mut Vec<TokenData>, line: i32) {
     let empty = |token| TokenData {
@@ -71,10 +71,10 @@ pub(crate) fn close(tokens: &mut Vec<TokenData>, line: i32) {
 /// Parses the state's tokens, as `Parser::new(&mut state).parse()` does, but answers where that
 /// panics.
 ///
-/// Errors and statements are put behind those that the state has.
+/// Errors and statements are put after those that the state has.
 ///
 /// The library reads the source, not the tokens in the state. So these have to be what [`scan`] makes
-/// of that source, up to EOF; behind it there may be others, as the original never looks there. If
+/// of that source, up to EOF; after it there may be others, as the original never looks there. If
 /// they are not, the answer is [`OtherTokens`](Error::OtherTokens), and the state stays as it is.
 ///
 /// What the lexer recorded doesn't matter: this stands for code that calls the original's parser, which
@@ -137,7 +137,7 @@ pub fn read_state(state: &mut InterpreterState) -> Result<(), Error> {
 /// assert_eq!((state.errors.len(), state.stmts.len()), (1, 1));
 /// ```
 pub fn read_state_as(options: Options, state: &mut InterpreterState) -> Result<(), Error> {
-    // What tokens that are there already do to the reading is for the two to tell.
+    // The two tell what tokens that are there already do to the reading.
     if !state.tokens.is_empty() {
         let recorded = state.errors.len();
         lex(options.rule, state).0?;

@@ -1,7 +1,7 @@
 //! Node records as trees of the original.
 //!
-//! Written from document 01's table of kinds: what each column holds is `columns`, and what a node
-//! becomes is `Walk::expr` and `Walk::stmt`.
+//! Written from the table of kinds in `docs/RULES.md`, 'Nodes': `columns` says what each column holds,
+//! `Walk::expr` and `Walk::stmt` say what a node becomes.
 //!
 //! Nothing here calls itself. `a+a+a` and so on, within 65,535 bytes, is a tree of 32,768 levels,
 //! and no ordinary stack has room to go down there. So nodes that are still to be done stand in a
@@ -12,7 +12,7 @@
 //! much again. So their size is known before they are built.
 //!
 //! The library's tables are well formed, which is proved. But nothing here relies on it: a child
-//! has to stand before its parent and a next behind its own node, and what doesn't is told as an
+//! has to stand before its parent and a next after its own node, and what doesn't is told as an
 //! error, so that no table leads out of itself or round in a circle.
 
 use crate::expr::*;

@@ -54,7 +54,7 @@ fn a_script_has_it_beside_its_tokens() {
     }
 }
 
-/// One token, EOF, needs eight words; the words behind them stay as they were.
+/// One token, EOF, needs eight words; the words after them stay as they were.
 #[test]
 fn seven_words_have_no_room() {
     let mut table = [9; 15];

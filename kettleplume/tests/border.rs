@@ -34,7 +34,7 @@ impl Guarded {
         &mut self.words[self.range.clone()]
     }
 
-    /// The guards are whole, the records stand first, and each word behind them is `behind`.
+    /// The guards are whole, the records stand first, and each word after them is `behind`.
     fn holds<const N: usize>(&self, records: &[[u32; N]], behind: u32) {
         let (before, after) = (&self.words[..GUARDS], &self.words[self.range.end..]);
         assert!(before.iter().chain(after).all(|&word| word == GUARD));
@@ -278,7 +278,7 @@ fn statement_by_statement() {
     assert!(statements > 500 && stopped > 20, "{statements} {stopped}");
 }
 
-/// A parser that doesn't go with its tables: nothing is changed.
+/// A parser that doesn't fit its tables: nothing is changed.
 #[test]
 fn a_parser_of_other_tables() {
     let (mut lent, mut parser) = (Lent::new([5, 1, 9, 5], 2), Parser::default());
@@ -407,7 +407,7 @@ fn numbers_that_name_no_rule() {
     }
 }
 
-/// A read asks first for the final answer, then whether parser and tables go together, then for the rule;
+/// A read asks first for the final answer, then whether parser and tables fit together, then for the rule;
 /// with its rule set right again the reading goes on.
 #[test]
 fn a_rule_that_is_changed_between_calls() {
@@ -505,7 +505,7 @@ fn decodings() {
     }
 }
 
-/// Document 01's worked example, word for word.
+/// The worked example of `docs/RULES.md`, 'Outline', word for word.
 #[test]
 fn worked_example() {
     let mut lent = Lent::new([10; 4], 0);

@@ -1,4 +1,4 @@
-//! The command as the office runs it: the built program, on files in a folder of the test's own.
+//! The command as it is run: the built program, on files in a folder of the test's own.
 
 use std::ffi::{c_char, c_int, OsStr};
 use std::fs::{self, File};
@@ -172,7 +172,7 @@ fn both_rules() {
     ] {
         assert_eq!(reported(words, script), one, "{words:?}");
     }
-    // Behind the loop there is none.
+    // After the loop there is none.
     let (out, status) = reported(&["read", "--rule", "2", "s.gr"], "for x in y {}\nbreak\n");
     assert!(out.starts_with("s.gr:2:1: "), "{out}");
     assert_eq!(status, 1);
@@ -445,7 +445,7 @@ fn a_wrong_escape_is_told() {
     );
 }
 
-/// A new line behind a backslash isn't counted by the reader. The lines shown are the file's.
+/// A new line after a backslash isn't counted by the reader. The lines shown are the file's.
 #[test]
 fn lines_are_the_files_own() {
     reports(
@@ -520,7 +520,7 @@ const SHOWN: [Shown; 17] = [
         "     1 | \"u\u{302}\" b",
         "       |     ^",
     ]),
-    // The place is a new line: the mark stands behind the last character.
+    // The place is a new line: the mark stands after the last character.
     ("let d = {\n    \"a\": \"b\"\n    \"c\": \"d\"\n}\n", &[
         "s.gr:2:13: Expected '}' at the end of dict",
         "     2 |     \"a\": \"b\"",
@@ -968,7 +968,7 @@ fn outlines_of_several_files() {
     folder.run(&["read", "a.gr", "--outline"]).is(0, worked, "");
 }
 
-/// What the proved program prints for stored scripts, each outcome of document 01 among them. Where its
+/// What the proved program prints for stored scripts, each outcome from 0 to 8 among them. Where its
 /// rooms were too small (4 to 7) the command prints the whole.
 #[test]
 fn outlines_of_the_proved_program() {
@@ -1026,7 +1026,7 @@ fn within_rooms(script: &[u8]) -> Option<String> {
             lines.push(format!("{letter} {}", words.join(" ")));
         }
     };
-    // The line where a token begins, its last word, stands behind its line.
+    // The line where a token begins, its last word, stands after its line.
     table("t", &tokens, TOKEN_WORDS, &[0, 1, 2, 3, 7], t);
     table("e", &errors, ERROR_WORDS, &[0, 1, 2], e);
     table("n", &nodes, NODE_WORDS, &[0, 1, 2, 3, 4, 5, 6, 7, 8], n);

@@ -17,7 +17,7 @@ fn on_stack<R: Send + 'static>(bytes: usize, f: impl FnOnce() -> R + Send + 'sta
 
 const ORDINARY: usize = 2 << 20;
 
-/// A start and as many pieces behind it as can be.
+/// A start and as many pieces after it as can be.
 fn chain(start: &str, piece: &str) -> String {
     start.to_string() + &piece.repeat((LONGEST - start.len()) / piece.len())
 }

@@ -4,7 +4,7 @@ use std::collections::HashSet;
 
 use kettleplume::{message, read_as, Error, Options, Tables, MESSAGES};
 
-/// Those that document 01 has no number for.
+/// Those that are no outcome and have no number.
 const UNNUMBERED: [Error; 2] = [Error::TreesTooLarge, Error::OtherTokens];
 
 /// Fails to compile when there is an error that isn't in one of the two lists, or has to be.
@@ -97,12 +97,12 @@ const CASES: [Case; 17] = [
     ("a )\n", [1, 4, 2, 2, 2], &[[4, 1, 2], [28, 1, 2]]),
     // A string is recorded with the line of its end; its place is its quote. Here it is `b`.
     ("\"x\ny\" b\n", [0, 4, 1, 4, 2], &[[4, 2, 6]]),
-    // A new line has the number of the line behind it.
+    // A new line has the number of the line after it.
     ("let\n", [1, 3, 1, 0, 0], &[[5, 2, 3]]),
     ("[1\n", [1, 4, 1, 0, 0], &[[20, 2, 2]]),
-    // The first new line, since the cursor goes back: not what stands behind.
+    // The first new line, since the cursor goes back: not what stands after it.
     ("(a\n\nb\n", [0, 7, 1, 5, 3], &[[12, 2, 2]]),
-    // The keyword, also behind new lines.
+    // The keyword, also after new lines.
     ("{\n  continue\n}\n", [0, 7, 1, 2, 2], &[[19, 2, 4]]),
     // The `=` of the outermost assignment that can't be one.
     ("a = 1 = 2\n", [1, 7, 1, 0, 0], &[[23, 1, 6]]),

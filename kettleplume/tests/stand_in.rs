@@ -105,7 +105,7 @@ fn compare(script: &str) {
     assert_eq!(ended.err(), stopped(read.stop), "{script:?}");
     assert_eq!(format!("{state:?}"), after_parse);
 
-    // The new way stops behind the lexer, or is the same.
+    // The new way stops after the lexer, or is the same.
     let mut state = fresh(script);
     let ended = read_state(&mut state);
     let stops = lexed.stop == Stop::None && !lexed.errors.is_empty();
@@ -213,7 +213,7 @@ const SOURCES: [&str; 9] = [
     "class A {}\n",
 ];
 
-/// A state that isn't fresh: what is read comes behind what is there.
+/// A state that isn't fresh: what is read comes after what is there.
 #[test]
 fn a_second_source_in_a_state() {
     for (first, second) in SOURCES.iter().flat_map(|a| SOURCES.map(|b| (a, b))) {
@@ -235,7 +235,7 @@ fn asked_twice() {
             let mut lexer = Lexer::new(&mut state);
             lexer.scan();
             lexer.scan();
-            // The tokens behind the first EOF are never looked at.
+            // The tokens after the first EOF are never looked at.
             let mut parser = Parser::new(&mut state);
             parser.parse();
             let current = parser.current;

@@ -64,7 +64,7 @@ use token::TokenData;
 pub enum Rule {
     /// The original's.
     One,
-    /// Names may have digits behind the first byte, an enhanced for gives its loop count back, and a
+    /// Names may have digits after the first byte, an enhanced for gives its loop count back, and a
     /// number with a point may end the script.
     Two,
 }

@@ -1,8 +1,8 @@
 //! The original's parser with a log: when each node is finished, each error recorded, each
 //! top-level statement kept, and where a level too many would open. The original keeps no such
-//! order, but outcomes 6 to 8 of document 01 depend on it. Nor does it tell which token an error is
-//! about, from which the error's place comes, nor count its looks, the calls of `check`: each event is
-//! noted with the looks before it.
+//! order, but outcomes 6 to 8 (`docs/RULES.md`, 'Outcomes') depend on it. Nor does it tell which token
+//! an error is about, from which the error's place comes, nor count its looks, the calls of `check`: each
+//! event is noted with the looks before it.
 //!
 //! `build.rs` makes it from the unchanged `parser.rs` by putting calls in, and the one of rule two from
 //! that rule's. Whoever uses them compares their statements and errors with those of the parser

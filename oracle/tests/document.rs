@@ -1,5 +1,5 @@
-//! What document 01 says of the original, as far as the original can say it: the scripts on each
-//! side of the line, the rules of lexing, and the order of the operators. The limits that are
+//! What `docs/RULES.md` says of the original, as far as the original can say it: scripts on each side
+//! of a line ('Parsing'), the rules of lexing, and the order of the operators. The limits that are
 //! marked as added there (outcomes 3 to 8) are not the original's.
 
 mod common;
@@ -21,7 +21,7 @@ fn tokens(reading: &Reading) -> Vec<(u32, &str, i32)> {
         .collect()
 }
 
-// Scripts on each side of the line.
+// Scripts on each side of a line.
 
 #[test]
 fn scripts_on_each_side_of_the_line() {
@@ -353,7 +353,7 @@ fn lines_of_errors() {
     ]);
 }
 
-/// Slips a porter makes, as far as another test doesn't have them.
+/// Slips that are easily made when the parser is written anew, as far as another test doesn't have them.
 #[test]
 fn slips() {
     compare(&[

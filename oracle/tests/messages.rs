@@ -1,4 +1,4 @@
-//! The numbers of the messages are those of document 01, and no message is missing.
+//! The numbers of the messages are those of `docs/RULES.md`, 'Messages', and no message is missing.
 
 use oracle::{message_number, MESSAGES};
 

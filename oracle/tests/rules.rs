@@ -51,7 +51,7 @@ fn names() {
             [["17@1 28@1 STOP", ""], ["", "(for [x1] in y2 (block []))"]],
         ),
     ]);
-    // A keyword with a digit behind it is a name; with a blank between them it stays what it is.
+    // A keyword with a digit after it is a name; with a blank between them it stays what it is.
     assert_eq!(lexemes(Rule::Two, "if2"), [(25, "if2".to_string())]);
     let apart = [(34, "if".to_string()), (27, "2".to_string())];
     assert_eq!(lexemes(Rule::Two, "if 2"), apart);
@@ -211,7 +211,7 @@ fn nothing_else_differs() {
     let mut dice = Dice::new();
     let mut compared = 0;
     while compared < 10_000 {
-        // A blank behind each piece keeps digits from names and numbers from the end.
+        // A blank after each piece keeps digits from names and numbers from the end.
         let count = dice.roll(16);
         let piece = |_| PIECES[dice.roll(PIECES.len() as u64) as usize];
         let script: String = (0..count).map(piece).flat_map(|p| [p, " "]).collect();

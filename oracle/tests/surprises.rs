@@ -1,5 +1,5 @@
-//! Points where document 01 is short or the original surprising: what the original does, in
-//! tables of a script, its errors and stop, and its statements (see `common`).
+//! Points where the original surprises: what it does, in tables of a script, its errors and stop, and its
+//! statements (see `common`).
 
 mod common;
 
@@ -524,7 +524,7 @@ fn blank_lines() {
 
 // Lines and positions.
 
-/// A failed `check` goes back: the line is that of the first newline, not of the token behind.
+/// A failed `check` goes back: the line is that of the first newline, not of the token after it.
 #[test]
 fn lines_at_newlines() {
     compare(&[
@@ -670,7 +670,7 @@ fn truth_values_and_nil_have_no_literal_in_the_token() {
 #[test]
 fn bad_escapes_and_illegal_bytes() {
     compare(&[
-        // The second byte of a two-byte letter behind the backslash is met as a byte.
+        // The second byte of a two-byte letter after the backslash is met as a byte.
         ("\"\\é", "3@1:0 2@1:3", ""),
         ("\"\\éb", "3@1:0 2@1:3", "b"),
         // Each further byte of a longer letter.

@@ -3,7 +3,7 @@
 `made.txt` has a line for each target: a hash of the code that it was made from, of its answers, of the generator, and of the
 files. The check works these out again. It shows that no input changed since the files were made, and that the files are as
 they were made; it needs no prover and does not make them again. Whoever changes a file and the record with it is found only
-by making all anew; that the files prove what they should, only the prover shows.
+by making all anew; only the prover shows that the files prove what they should.
 """
 import ast
 import hashlib

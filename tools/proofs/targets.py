@@ -1,4 +1,4 @@
-"""What there is to make: the folders of `tools/ans` say it, one for each crate.
+"""What there is to make. The folders of `tools/ans`, one for each crate, say it.
 
 `CRATE/cycle.txt` says that the crate has a cycle of calls, with a measure for each member; `CRATE/thin.txt` that it has thin
 functions; each other file has the answers of the function or member of its name.

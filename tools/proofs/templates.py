@@ -1,6 +1,6 @@
 """Writes first answers for a new member of a cycle or a new leaf: every return is a rewriting.
 
-A call at the end behind a found token rewrites its own promise instead of the goal, for there the goal speaks of the state
+A call at the end after a found token rewrites its own promise instead of the goal, for there the goal speaks of the state
 before the token was passed.
 """
 import re
@@ -17,7 +17,7 @@ def imports(repository, crate, definitions):
 
 
 def ends_in_reader(setting, chain):
-    """Whether a chain ends with a reader's promise behind that of a method that moves the state."""
+    """Whether a chain ends with a reader's promise after that of a method that moves the state."""
     called = [re.match(r"← @([\w-]+) ", fact) for fact in chain[-2:]]
     if len(called) < 2 or not all(called):
         return False

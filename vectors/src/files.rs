@@ -9,7 +9,7 @@
 //! | `stdin` of the program that replays whole readings | in the first script, a comment |
 //! | its `stdout` | here: it is all answers |
 //! | `crates/outcomes/data/*.gr` | here: the bytes are scripts that show something |
-//! | `crates/outcomes/stdout`, `examples/*.outline` | here: document 01 fixes the lines |
+//! | `crates/outcomes/stdout`, `examples/*.outline` | here: `docs/RULES.md`, 'Outline', fixes the lines |
 
 use std::path::PathBuf;
 

@@ -3,7 +3,7 @@
 //!
 //! The answer is `c OUTCOME TOKENS ERRORS`; then, for each token that is kept, `t KIND HEX LINE
 //! BEGINS SORT VALUE` with the bytes that it stands for; for each error that is kept, `e MESSAGE LINE
-//! POS`; and `u 0`: no word behind the kept records has changed.
+//! POS`; and `u 0`: no word after the kept records has changed.
 
 pub mod judge;
 mod scripts;
@@ -47,7 +47,7 @@ pub fn comment(sheet: &mut Sheet) {
     sheet.comment("Those of rule two are the same lexer's with two lines changed.");
     sheet.comment("Outcomes 3 to 6 follow from its answer, the text test and the tables' sizes");
     sheet.comment(&format!(
-        "by document 01, 'Outcomes'. Random scripts: {RANDOM} by each rule, xorshift64, seed {SEED:#x}"
+        "by docs/RULES.md, 'Outcomes'. Random scripts: {RANDOM} by each rule, xorshift64, seed {SEED:#x}"
     ));
 }
 

@@ -3,7 +3,7 @@
 //! A vector of the leaves or of lexing is a line of the program's standard input, its answer a line
 //! of its standard output; `whole` has scripts as they are, and the tables that whole readings leave.
 //! The answers come from a judge in Rust that shares nothing with the Rattle code: the original
-//! where it has such a thing, Rust's own library, or a plain rendering of document 01.
+//! where it has such a thing, Rust's own library, or a plain rendering of `docs/RULES.md`.
 //! `definition` and `blackout` make theorems instead, for the prover: scripts with the original's
 //! answers, and pairs of scripts. `outlines` makes what the program `outline` has to print. `files`
 //! has all that is made, and the command that makes it.

@@ -1,7 +1,7 @@
-//! Outlines in document 01's form: what the program `outline` has to print for a script. Tokens,
+//! Outlines (`docs/RULES.md`, 'Outline'): what the program `outline` has to print for a script. Tokens,
 //! errors and nodes are the original's. Where a room of `outline` ends, a level too many opens or
-//! the script is no text, the outcome and what is kept follow document 01 and stand beside the
-//! script.
+//! the script is no text, the outcome and what is kept follow `docs/RULES.md`, 'Outcomes', and stand
+//! beside the script.
 
 use std::path::PathBuf;
 use std::{fs, iter};
@@ -72,8 +72,8 @@ pub struct Ending {
 }
 
 /// The first scripts of the program `outcomes`, in the order in which it prints them: each outcome
-/// of document 01 under the rooms of `outline`, both ways to 6, what an outline says of lines, and
-/// that it goes on after a bad lexing.
+/// from 0 to 8 under the rooms of `outline`, both ways to 6, what an outline says of lines, and that it
+/// goes on after a bad lexing.
 pub fn endings() -> Vec<Ending> {
     let known = |text: &str| Ending {
         script: text.as_bytes().to_vec(),
@@ -97,7 +97,7 @@ pub fn endings() -> Vec<Ending> {
         ending("(".repeat(2047), outcome::TOKEN_ROOM, [2048, 0, 0]),
         ending("$".repeat(257), outcome::ERROR_ROOM, [0, 256, 0]),
         ending("break\n".repeat(257), outcome::ERROR_ROOM, [515, 256, 256]),
-        // 801 names and 800 sums behind a statement of two nodes.
+        // 801 names and 800 sums after a statement of two nodes.
         ending(format!("a\n{sum}\n"), outcome::NODE_ROOM, [1605, 0, 1]),
         ending(
             format!("let a\n{}a{}\n", "(".repeat(127), ")".repeat(127)),

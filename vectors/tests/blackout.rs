@@ -1,4 +1,4 @@
-//! Demand 3's premise: the stored pairs, and each clause.
+//! The premise of blacking out: the stored pairs, and each clause.
 
 use expected::lexing::LONGEST;
 use expected::rules::Rule;

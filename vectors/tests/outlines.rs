@@ -1,4 +1,5 @@
-//! Every outcome of document 01 occurs in the stored outlines, and its worked example is one.
+//! Every outcome from 0 to 8 occurs in the stored outlines, and the worked example of `docs/RULES.md`,
+//! 'Outline', is one.
 
 use std::collections::BTreeSet;
 use std::fs;
@@ -19,7 +20,7 @@ fn every_outcome_occurs() {
 }
 
 #[test]
-fn the_worked_example_of_document_01() {
+fn the_worked_example_of_the_rules() {
     let read = |file| fs::read(path(OUTLINE, file)).expect("the file is there");
     assert_eq!(read("stdin"), b"a = 1\n");
     assert_eq!(outline(b"a = 1\n", None).into_bytes(), read("stdout"));

@@ -1,4 +1,4 @@
--- Demand 3: what may be blacked out does not change the reading. Assumes nothing.
+-- Blacking out (docs/RULES.md, 'Blacking out') does not change the reading. Assumes nothing.
 use mathlib.Core.Path.{_≡_, sym, ap, subst, _∙_}
 use mathlib.Core.Bool.{true, not}
 use mathlib.Core.List.{List}
@@ -48,7 +48,7 @@ pub reading-equal : (rule way : ℕ) (s r t e n x : List ℕ) → Blackout rule 
 unfolding reading
 reading-equal rule way s r t e n x h = ap (λ (d : Result). readAfter rule (enteredAfter (withRoom (room indexWidth x) (onWay way d)) t e n x)) (lexedOf-same rule s r (room tokenWidth t) (room errorWidth e) h)
 
--- DEMAND 3: the whole reading, by any rule and on any way, the same for both, into equally large tables and with an equally large index, whatever they held: the same outcome, counts, first
+-- THE THEOREM: the whole reading, by any rule and on any way, the same for both, into equally large tables and with an equally large index, whatever they held: the same outcome, counts, first
 -- statement, looks, kept records and words of the index
 pub reading-same : (rule way : ℕ) (s r t e n x t′ e′ n′ x′ : List ℕ) → Blackout rule s r → length t ≡ length t′ → length e ≡ length e′ → length n ≡ length n′ → length x ≡ length x′ → SameReading (reading rule way s t e n x) (reading rule way r t′ e′ n′ x′)
 reading-same rule way s r t e n x t′ e′ n′ x′ h tl el nl xl = subst (λ (y : Reading). SameReading (reading rule way s t e n x) y) (reading-equal rule way s r t′ e′ n′ x′ h) (reading-sizes rule way s t e n x t′ e′ n′ x′ tl el nl xl)
@@ -57,7 +57,7 @@ reading-same rule way s r t e n x t′ e′ n′ x′ h tl el nl xl = subst (λ 
 pub nodes-same : (rule way : ℕ) (s r t e n x t′ e′ n′ x′ : List ℕ) → known rule ≡ true → Blackout rule s r → length t ≡ length t′ → length e ≡ length e′ → length n ≡ length n′ → length x ≡ length x′ → reading rule way s t e n x .nodes ≡ reading rule way r t′ e′ n′ x′ .nodes
 nodes-same rule way s r t e n x t′ e′ n′ x′ k h tl el nl xl = reading-same rule way s r t e n x t′ e′ n′ x′ h tl el nl xl .nodes (reading-read rule way s t e n x k (h .within) (is-true (isText s) (h .first-text)))
 
--- beyond the limit equally long scripts are refused alike, whatever they hold: of all clauses the limit alone is not needed for the same reading
+-- beyond the limit equally long scripts are refused alike, whatever they hold: the limit is the only clause that the same reading doesn't need
 pub beyond-same : (rule way : ℕ) (s r t e n x : List ℕ) → 65535 < length s → length s ≡ length r → reading rule way s t e n x ≡ reading rule way r t e n x
 unfolding reading lexedOf
 beyond-same rule way s r t e n x h l =

@@ -11,7 +11,7 @@ use Rattle.entry.specs.Reading.{Reading, reading}
 use Rattle.whole.specs.Sizes.{came}
 use Rattle.blackout.proofs.Trials.{Pair, pair}
 
--- what demand 3 says is the same: the answer, every word of the kept records, and where parsing came the index's words of the kept tokens
+-- what blacking out leaves the same: the answer, every word of the kept records, and where parsing came the index's words of the kept tokens
 abbrev pub kept : Reading → List ℕ
 kept r =
     r .outcome ∷ r .tokenCount ∷ r .errorCount ∷ r .nodeCount ∷ r .first ∷ r .looks ∷

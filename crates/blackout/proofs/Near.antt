@@ -1,4 +1,4 @@
--- Where two scripts are alike the first bytes of an item are the same byte, or two bytes of names; no test that the lexing makes of the byte behind an item tells these apart. Assumes nothing.
+-- Where two scripts are alike the first bytes of an item are the same byte, or two bytes of names. No test that lexing makes of the byte after an item tells these apart. Assumes nothing.
 use mathlib.Core.Path.{_≡_, refl, sym, ap, _∙_, subst}
 use mathlib.Core.Logic.{_⊎_, inl, inr, ⊎-elim}
 use mathlib.Core.Bool.{Bool, true, false, not, _&&_, _||_, cond}

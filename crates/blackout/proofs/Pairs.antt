@@ -39,12 +39,12 @@ pairs =
     pair 2 "\"a\\n\\\"b\\\\\"" "\"#\\n\\\"1\\\\\"" true true ∷  -- escapes in a string
     pair 1 "\"a\"b" "\"#\"a" true true ∷  -- marks in a string
     pair 2 "\"a\"b" "\"#\"a" true true ∷  -- marks in a string
-    pair 1 "\"\\qa\" b" "\"\\qc\" b" true true ∷  -- behind a wrong escape
-    pair 2 "\"\\qa\" b" "\"\\qc\" b" true true ∷  -- behind a wrong escape
+    pair 1 "\"\\qa\" b" "\"\\qc\" b" true true ∷  -- after a wrong escape
+    pair 2 "\"\\qa\" b" "\"\\qc\" b" true true ∷  -- after a wrong escape
     pair 1 "a \"b" "c \"b" true true ∷  -- before an open string
     pair 2 "a \"b" "c \"b" true true ∷  -- before an open string
-    pair 1 "1.5a" "1.5b" true true ∷  -- behind a number
-    pair 2 "1.5a" "1.5b" true true ∷  -- behind a number
+    pair 1 "1.5a" "1.5b" true true ∷  -- after a number
+    pair 2 "1.5a" "1.5b" true true ∷  -- after a number
     pair 1 "a ! b" "c ! d" true true ∷  -- about a message
     pair 2 "a ! b" "c ! d" true true ∷  -- about a message
     pair 1 "a 1.5" "b 1.5" true true ∷  -- a number to the last byte
@@ -99,10 +99,10 @@ pairs =
     pair 2 "\"a\"" "\"\n\"" false false ∷  -- a string gains a newline
     pair 1 "ab" "1b" false false ∷  -- a name gains a digit as its first byte
     pair 2 "ab" "1b" false false ∷  -- a name gains a digit as its first byte
-    pair 1 "1a" "1b" true true ∷  -- a name right behind a number
-    pair 2 "1a" "1b" true true ∷  -- a name right behind a number
-    pair 1 "1a" "12" false false ∷  -- a name behind a number joins it
-    pair 2 "1a" "12" false false ∷  -- a name behind a number joins it
+    pair 1 "1a" "1b" true true ∷  -- a name right after a number
+    pair 2 "1a" "1b" true true ∷  -- a name right after a number
+    pair 1 "1a" "12" false false ∷  -- a name after a number joins it
+    pair 2 "1a" "12" false false ∷  -- a name after a number joins it
     pair 1 "ab" "a " false false ∷  -- a shorter name
     pair 2 "ab" "a " false false ∷  -- a shorter name
     pair 1 "if" "ab" false false ∷  -- a keyword becomes a name
@@ -117,12 +117,12 @@ pairs =
     pair 2 "\"\\n\"" "\"\\t\"" false true ∷  -- another escape
     pair 1 "ab" "a1" false false ∷  -- a name gains a digit
     pair 2 "ab" "a1" true true ∷  -- a name gains a digit
-    pair 1 "a1" "b2" false false ∷  -- a digit behind a letter becomes another
-    pair 2 "a1" "b2" true true ∷  -- a digit behind a letter becomes another
-    pair 1 "_1" "a_" false false ∷  -- a digit behind a letter becomes a letter
-    pair 2 "_1" "a_" true true ∷  -- a digit behind a letter becomes a letter
-    pair 1 "a1" "a " false false ∷  -- a digit behind a letter becomes a blank
-    pair 2 "a1" "a " false false ∷  -- a digit behind a letter becomes a blank
+    pair 1 "a1" "b2" false false ∷  -- a digit after a letter becomes another
+    pair 2 "a1" "b2" true true ∷  -- a digit after a letter becomes another
+    pair 1 "_1" "a_" false false ∷  -- a digit after a letter becomes a letter
+    pair 2 "_1" "a_" true true ∷  -- a digit after a letter becomes a letter
+    pair 1 "a1" "a " false false ∷  -- a digit after a letter becomes a blank
+    pair 2 "a1" "a " false false ∷  -- a digit after a letter becomes a blank
     pair 1 "a1" "if" false false ∷  -- a letter with a digit becomes a keyword
     pair 2 "a1" "if" false false ∷  -- a letter with a digit becomes a keyword
     pair 1 "if" "i1" false false ∷  -- a keyword gains a digit
@@ -137,8 +137,8 @@ pairs =
     pair 2 "a1.5" "b2.5" true true ∷  -- a letter and a digit before a point
     pair 1 "1.5" "2.5" false true ∷  -- a number with a point at the end
     pair 2 "1.5" "2.5" false false ∷  -- a number with a point at the end
-    pair 1 "for a1 in b2 {}\nbreak" "for x9 in y_ {}\nbreak" false false ∷  -- an enhanced for and what stands behind it
-    pair 2 "for a1 in b2 {}\nbreak" "for x9 in y_ {}\nbreak" true true ∷  -- an enhanced for and what stands behind it
+    pair 1 "for a1 in b2 {}\nbreak" "for x9 in y_ {}\nbreak" false false ∷  -- an enhanced for and what stands after it
+    pair 2 "for a1 in b2 {}\nbreak" "for x9 in y_ {}\nbreak" true true ∷  -- an enhanced for and what stands after it
     []
 
 agree : premises (unread pairs) ≡ verdicts (unread pairs)

@@ -1,1 +1,1 @@
-// Nothing but a definition, what of a script may be blacked out, and its theorem, that the items stay the same. The whole reading stands above, in `alike`.
+// No code: a definition, which says what of a script may be blacked out, and its theorem, which says that the items stay the same. The theorem about the whole reading is in `alike`.

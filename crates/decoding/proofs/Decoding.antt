@@ -33,7 +33,7 @@ success d w l before after e c k =
 pub decodes-as : (d e : Decode) (r : Decoded) (before after : List ℕ) → d ≡ e → Decoding e r before after → Decoding d r before after
 decodes-as d e r before after h x = subst⁻¹ (λ (y : Decode). Decoding y r before after) h x
 
--- ---- behind the opening quote: each answer, from what the reading comes to
+-- ---- after the opening quote: each answer, from what the reading comes to
 module _ (s : List ℕ) (room : ℕ) (x : Ended) (r : x ≡ readOf s begun) where
   abbrev decides : Ended → Decode
   decides y = pickDecode (isClosed y) (fitted (decodedFrom s false) room) (refused notAString)

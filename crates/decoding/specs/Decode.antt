@@ -1,4 +1,4 @@
--- The decoding of one string: the outcome, and what is written.
+-- The decoding of one string (docs/RULES.md, 'Decoding'): the outcome, and what is written.
 use Prim.Native.Nat.{ℕ}
 use mathlib.Core.Path.{_≡_}
 use mathlib.Core.Bool.{Bool, true, false, not}
@@ -35,7 +35,7 @@ pickDecode false a b = b
 abbrev pub fitted : List ℕ → ℕ → Decode
 fitted w room = pickDecode (ltb room (length w)) (refused outcomes.noBufferRoom) (record { outcome = outcomes.ended; bytes = w })
 
--- behind an opening quote: no string unless rule 5, read from there, reaches a closing quote
+-- after an opening quote: no string unless lexing's rule 5, read from there, reaches a closing quote
 abbrev pub decodeFrom : List ℕ → ℕ → Decode
 decodeFrom s room = pickDecode (isClosed (readOf s begun)) (fitted (decodedFrom s false) room) (refused outcomes.notAString)
 

@@ -69,7 +69,7 @@ pub fn decode(source: &[u8], start: usize, buffer: &mut [u8]) -> Decoded
     decode_from(source, start + 1, buffer)
 }
 
-// Decodes the string that stands behind its opening quote.
+// Decodes a string from the byte after its opening quote.
 fn decode_from(s: &[u8], from: usize, buffer: &mut [u8]) -> Decoded
     ensures { λ r. ⌜ Decoding (decodeFrom (drop from (now (s .entry))) (length (now (buffer .entry)))) r (now (buffer .entry)) (now (buffer .exit)) ⌝ }
 {

@@ -113,7 +113,7 @@ item-pays rule b s = at (isAlpha b) (isDigit b) (item-bounded rule b s .0)
     at false false h = as-pays rule (signOf b) b s (find-fit b signs tt)
 
 -- ---- one more token
--- the token behind the first m, whatever follows: it has its own kind, or lies past what a table can hold
+-- the token after the first m, whatever follows: it has its own kind, or lies past what a table can hold
 last-allows : (ws v : List ℕ) (d : TokenData) (m : ℕ) → length ws ≡ tokenWidth * m → allows errors (kindAt (ws ++ (tokenWords d ++ v)) m) ≤ allows errors (d .kind)
 unfolding kindAt
 last-allows ws v d m l = ⊎-elim (λ h. rw (inside h) (omega arith)) (λ h. rw (field-none tokenWidth 0 (ws ++ (tokenWords d ++ v)) m h) (omega arith)) (lt-or-le m (room tokenWidth (ws ++ (tokenWords d ++ v))))
@@ -128,7 +128,7 @@ more-allowed ws v d m l =
     let k = allowed-next errors (ws ++ (tokenWords d ++ v)) m in
     rw append-assoc (omega arith)
 
--- ---- a state of a lexing; c: how much its errors, and what its tokens allow, may be over two for each byte passed. Of what follows the tokens, v, nothing is known yet
+-- ---- a state of a lexing; c: how much its errors, and what its tokens allow, may be over two for each byte passed. Nothing is known yet of v, which follows the tokens
 record Inv (c : ℕ) (t : State) : Type 0 where
   long : length (t .tokens) ≡ tokenWidth * t .tokenCount
   few : (v : List ℕ) → allowed errors (t .tokens ++ v) (t .tokenCount) + t .errorCount ≤ 2 * t .at + c

@@ -46,7 +46,7 @@ withRoom r d = withOutcome (outcomeIn r (d .outcome) (d .tokenCount)) d
 abbrev pub indexAfter : ℕ → List ℕ → ℕ → List ℕ → List ℕ
 indexAfter o t n x = cond (eqb o ended) (lineIndex t n x) x
 
--- by what a lexing came to
+-- what stands after a lexing, by what it came to
 abbrev pub enteredAfter : Result → List ℕ → List ℕ → List ℕ → List ℕ → Entered
 enteredAfter d t e n x = record {
   outcome = d .outcome;
@@ -58,7 +58,7 @@ enteredAfter d t e n x = record {
   index = indexAfter (d .outcome) (over (d .tokens) t) (d .tokenCount) x;
 }
 
--- by any rule and on any way, of any bytes, into tables t, e and n with the index x: 11 is told before 10
+-- what stands once any bytes are lexed, by any rule and on any way, into tables t, e and n with the index x: 11 is told before 10
 abbrev pub entered : ℕ → ℕ → List ℕ → List ℕ → List ℕ → List ℕ → List ℕ → Entered
 entered rule way s t e n x = enteredAfter (withRoom (room indexWidth x) (onWay way (lexedOf rule s (room tokenWidth t) (room errorWidth e)))) t e n x
 

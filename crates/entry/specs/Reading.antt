@@ -1,4 +1,4 @@
--- The whole reading, from bytes to the three tables and the index: 13 first, then outcomes 0 to 8 in document 01's order, and 11 and 10 between lexing's and parsing's.
+-- The whole reading, from bytes to the three tables and the index: 13 first, then outcomes 0 to 8 in the order of docs/RULES.md, 'Outcomes', and 11 and 10 between lexing's and parsing's.
 use Prim.Native.Nat.{ℕ}
 use mathlib.Core.Path.{_≡_}
 use mathlib.Core.Bool.{Bool, true, false}

@@ -1,4 +1,4 @@
--- The two ways of a reading. The old way parses whatever was lexed to its end; the new way is the old one but for this: where lexing recorded an error, nothing is parsed.
+-- The two ways of a reading (docs/RULES.md, 'Ways'). The old way parses whatever was lexed to its end. The new way is the old one but for this: where lexing recorded an error, nothing is parsed.
 use Prim.Native.Nat.{ℕ}
 use mathlib.Core.Bool.{Bool, cond, _&&_}
 use lib.Dec.{eqb, ltb}

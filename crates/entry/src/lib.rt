@@ -25,7 +25,7 @@ impl Way {
     // The new way: nothing is parsed where lexing recorded an error.
     pub const STOP: u32 = 0;
 
-    // The old way: what was lexed to its end is parsed. So it is for every number but 0.
+    // The old way: what was lexed to its end is parsed. Every number but 0 means this way.
     pub const GO_ON: u32 = 1;
 }
 

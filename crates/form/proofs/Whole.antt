@@ -18,7 +18,7 @@ read-is : (d : Reading) (r : Answer) (T E N X : List ℕ) → Answers d r T E N 
 read-is d r T E N X h = λ i.
     record { outcome = h .outcome-is i; tokenCount = h .tokens-are i; errorCount = h .errors-are i; nodeCount = h .nodes-are i; first = h .first-is i; looks = h .looks-are i; tokens = h .token-table i; errors = h .error-table i; nodes = h .node-table i; index = h .index-table i }
 
--- the parts of a reading's text, as they are written one behind the other
+-- the parts of a reading's text, as they are written one after the other
 pub text-is : (r : Answer) (T E N X B u : List ℕ) (at : ℕ)
     → Holds
     ([] ++

@@ -1,4 +1,4 @@
--- Document 01's form of a reading as text: a line `o` for the answer, then one for each token, error and node that is kept.
+-- A reading as text (docs/RULES.md, 'Outline'): a line `o` for the answer, then one for each token, error and node that is kept.
 use Prim.Native.Nat.{ℕ, zero, suc, _+_, _*_, _/_, _%_, min}
 use mathlib.Core.Path.{_≡_}
 use mathlib.Core.Bool.{cond}
@@ -11,7 +11,7 @@ use Rattle.rules.specs.Rules.{one}
 use Rattle.entry.specs.Ways.{goOn}
 use Rattle.entry.specs.Reading.{Reading, reading}
 
--- the digits of a number below 10 ^ k, without zeros in front
+-- the digits of a number below 10 ^ k, without leading zeros
 abbrev pub digitsWithin : ℕ → ℕ → List ℕ
 digitsWithin zero n = []
 digitsWithin (suc k) n = cond (ltb n 10) ((48 + n) ∷ []) (digitsWithin k (n / 10) ++ ((48 + n % 10) ∷ []))
@@ -42,15 +42,15 @@ linesOf letter t w shown (suc n) = linesOf letter t w shown n ++ lineOf letter t
 abbrev pub headOf : List ℕ → List ℕ
 headOf row = lineOf 111 row 0 (0 ∷ 1 ∷ 2 ∷ 3 ∷ 4 ∷ [])
 
--- of a token its kind, start, length and line, and the line where it begins, its last word
+-- the words of a token that are shown: kind, start, length, line, and its last word, the line where it begins
 abbrev pub tokenShown : List ℕ
 tokenShown = 0 ∷ 1 ∷ 2 ∷ 3 ∷ 7 ∷ []
 
--- of an error its three words
+-- those of an error: all three
 abbrev pub errorShown : List ℕ
 errorShown = 0 ∷ 1 ∷ 2 ∷ []
 
--- of a node its nine
+-- those of a node: all nine
 abbrev pub nodeShown : List ℕ
 nodeShown = 0 ∷ 1 ∷ 2 ∷ 3 ∷ 4 ∷ 5 ∷ 6 ∷ 7 ∷ 8 ∷ []
 
@@ -74,7 +74,7 @@ readWithin s = reading one goOn s (replicate (tokenWidth * 2048) 0) (replicate (
 unfoldable pub outlineOf : List ℕ → List ℕ
 outlineOf s = cond (ltb 4096 (length s)) (headOf (4 ∷ 0 ∷ 0 ∷ 0 ∷ 0 ∷ [])) (textOf (readWithin s))
 
--- a buffer whose first bytes are a text, as far as there is room for it; behind them it is as it was before
+-- a buffer whose first bytes are a text, as far as there is room for it; after them it is as it was before
 pub record Holds (text : List ℕ) (before : List ℕ) (buffer : List ℕ) (at : ℕ) : Type 0 where
   pub count : at ≡ min (length text) (length before)
   pub bytes : buffer ≡ take at text ++ drop at before

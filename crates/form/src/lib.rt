@@ -1,4 +1,4 @@
-// What a reading keeps, as text in document 01's form: a line `o` for the answer, then a line for each token, error and node.
+// What a reading keeps, as text (docs/RULES.md, 'Outline'): a line `o` for the answer, then a line for each token, error and node.
 // A text goes into a lent buffer as far as that has room.
 ghost use Prim.Native.Nat.{ℕ, _+_, _*_, _≤_};
 ghost use mathlib.Core.Path.{_≡_};
@@ -137,7 +137,7 @@ fn reading(out: &mut [u8], r: Answer, tokens: &[u32], errors: &[u32], nodes: &[u
     lines(out, c, b'n', nodes, records::NODE_WIDTH, &node, r.nodes)
 }
 
-// The outline of a script, within document 01's rooms, on the old way: 11 is never printed.
+// The outline of a script, within the rooms of docs/RULES.md, 'Outline', on the old way: 11 is never printed.
 pub fn outline(source: &[u8], out: &mut [u8]) -> usize
     ensures { λ r. ⌜ Holds (outlineOf (now (source .entry))) (now (out .entry)) (now (out .exit)) r ⌝ }
     ensures { λ r. ⌜ Counts r (now (out .exit)) ⌝ }

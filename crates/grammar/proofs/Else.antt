@@ -1,4 +1,4 @@
--- Where the statements of an `else` end the brace is there, so the `consume` behind them finds it: they are a block, and one look more. Assumes nothing.
+-- Where the statements of an `else` end the brace is there, so the `consume` after them finds it: they are a block, and one look more. Assumes nothing.
 use mathlib.Core.Path.{_≡_, refl, sym, ap, _∙_}
 use mathlib.Core.Bool.{Bool, true, false}
 use mathlib.Core.List.{List}
@@ -29,7 +29,7 @@ again-there T at i e =
     let s : i ≡ skipLines T i = skip-end T i λ l. omega arith in
     matches-passed T i RightCurlyBrace (At i) (check-found T i RightCurlyBrace i s (λ z. omega arith) (ap (kindAt (T .tokens)) (sym s) ∙ k))
 
--- the statements of an else, and the brace behind them
+-- the statements of an else, and the brace after them
 abbrev withBrace : View → ℕ → ℕ → ℕ → Prog
 withBrace T f first last = elseFrom T f first last >>= λ n. consume RightCurlyBrace 7 >> give n
 

@@ -859,7 +859,7 @@ fn pairs(
     }
 }
 
-// A slice without its first part, behind the first colon.
+// A slice without its first part, after the first colon.
 fn upto(
     tokens: &[u32],
     errors: &mut [u32],
@@ -917,7 +917,7 @@ fn upto(
     )
 }
 
-// A slice with its first part, behind the first colon.
+// A slice with its first part, after the first colon.
 fn slice(
     tokens: &[u32],
     errors: &mut [u32],
@@ -1288,7 +1288,7 @@ fn unary(
     call(tokens, errors, nodes, index, p.looked(2), levels)
 }
 
-// `or` to `power` behind their first operand, without the loosest so many levels: the nested loops as one, from the tightest level to the loosest.
+// `or` to `power` after their first operand, without the loosest so many levels: the nested loops as one, from the tightest level to the loosest.
 fn binary(
     tokens: &[u32],
     errors: &mut [u32],

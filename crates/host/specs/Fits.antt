@@ -1,4 +1,4 @@
--- Whether a parser that a host keeps goes with the tables that it is lent with.
+-- Whether a parser that a host keeps fits the tables that it is lent with (docs/RULES.md, 'One statement at a time').
 use Prim.Native.Nat.{ℕ, zero, suc}
 use mathlib.Core.Bool.{Bool, true, false, not, _&&_}
 use mathlib.Core.List.{List}
@@ -13,7 +13,7 @@ unfoldable pub noEof : List ℕ → ℕ → Bool
 noEof T zero = true
 noEof T (suc k) = not (eqb (kindAt T k) EOF) && noEof T k
 
--- of n tokens the last is EOF, and the only one
+-- the last of n tokens is EOF, and the only one
 unfoldable pub onlyEof : List ℕ → ℕ → Bool
 onlyEof T zero = false
 onlyEof T (suc k) = eqb (kindAt T k) EOF && noEof T k

@@ -1,4 +1,4 @@
-// The parser that a host keeps between two calls: what becomes of it, and whether it goes with the tables that are lent with it.
+// The parser that a host keeps between two calls: what becomes of it, and whether it fits the tables that are lent with it.
 ghost use mathlib.Core.Path.{_≡_};
 ghost use lib.Dec.{eqb};
 ghost use Rattle.records.specs.Outcomes.{goesOn};
@@ -69,7 +69,7 @@ impl Parser {
         self
     }
 
-    // Behind a statement, which left this state.
+    // After a statement, which left this state.
     pub fn behind(mut self, s: State, statement: u32) -> Self
         ensures { λ r. ⌜ r ≡ behind self s statement ⌝ }
     {

@@ -1,4 +1,4 @@
--- Rule one is document 01: its items are those that stood before there were rules, by the class of the first byte. Assumes nothing.
+-- Rule one is the original's: what its items are, by the class of the first byte, said without a rule. Assumes nothing.
 use mathlib.Core.Path.{_≡_, refl}
 use mathlib.Core.List.{List, _∷_}
 use Prim.Native.Nat.{ℕ, suc}

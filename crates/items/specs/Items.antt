@@ -1,4 +1,4 @@
--- Rules 1 to 6 of document 01, first phase: bytes to items. An item has all that its bytes give, and no place, no line and no byte. What rule two changes is said in `Rules`.
+-- Rules 1 to 6 of docs/RULES.md, 'Lexing', first phase: bytes to items. An item has all that its bytes give, and no place, no line and no byte. `Rules` says what rule two changes.
 use Prim.Native.Nat.{ℕ, zero, suc}
 use mathlib.Core.Bool.{Bool, true, false}
 use mathlib.Core.List.{List, [], _∷_}
@@ -120,7 +120,7 @@ module _ (rule : ℕ) where
   abbrev pub numberItem : Numeral → Item
   numberItem x = Number (record { size = x .size; whole = x .whole; places = x .places; cut = stopsAt rule (x .cut) })
 
-  -- the item whose first byte is b, of that class, with s behind it
+  -- the item whose first byte is b, of that class, with s after it
   abbrev pub itemAs : Class → ℕ → List ℕ → Item
   itemAs letter b s = nameOf b s
   itemAs digit b s = numberItem (numberOf b s)
@@ -132,7 +132,7 @@ module _ (rule : ℕ) where
   itemAs (sign (Pair k l)) b s = pairAt k l s
   itemAs (sign Illegal) b s = Wrong illegalCharacter 1 0
 
-  -- the item whose first byte is b, with s behind it
+  -- the item whose first byte is b, with s after it
   abbrev pub itemOf : ℕ → List ℕ → Item
   itemOf b s = itemAs (classOf b) b s
 

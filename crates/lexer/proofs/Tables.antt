@@ -1,4 +1,4 @@
--- The lexing over the tables is the lexing of the definition: the kept records stand at the front, and behind them every word is as it was.
+-- The lexing over the tables is the lexing of the definition: the kept records stand at the front, and after them every word is as it was.
 -- Assumes nothing.
 use mathlib.Core.Path.{_≡_, refl, sym, ap, _∙_, subst, subst⁻¹}
 use mathlib.Core.Bool.{Bool, true, false, not, _&&_}

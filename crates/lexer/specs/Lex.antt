@@ -1,4 +1,4 @@
--- Rules 1 to 7 of document 01, second phase: items to token and error records, within the tables' rooms. No byte is in sight.
+-- Rules 1 to 7 of docs/RULES.md, 'Lexing', second phase: items to token and error records, within the tables' rooms. No byte is looked at here.
 use Prim.Native.Nat.{ℕ, _+_}
 use mathlib.Core.Path.{_≡_}
 use mathlib.Core.Bool.{Bool, true, false, not, _&&_}
@@ -156,7 +156,7 @@ lexedBy rule s tokenRoom errorRoom =
 unfoldable pub lexedOf : ℕ → List ℕ → ℕ → ℕ → Result
 lexedOf rule s tokenRoom errorRoom = pickResult (not (known rule)) (refusal wrongRule) (lexedBy rule s tokenRoom errorRoom)
 
--- what a lexing answers, and the tables it leaves: the kept records, and behind them every word unchanged
+-- what a lexing answers, and the tables it leaves: the kept records, and after them every word unchanged
 pub record Lexing (d : Result) (r : Scanned) (tokens tokens′ errors errors′ : List ℕ) : Type 0 where
   pub outcome-is : r .outcome ≡ d .outcome
   pub tokens-are : r .tokens ≡ d .tokenCount

@@ -1,5 +1,5 @@
 -- The second phase once more over the lent tables themselves, step by step as the code goes: what the lexer's private functions promise.
--- A reader of the product's meaning needs only Items and Lex; that both say the same is proved.
+-- Items and Lex are enough to know what the lexer means. It is proved that this file says the same as Lex.
 use Prim.Native.Nat.{ℕ, _+_, _≤_}
 use mathlib.Core.Path.{_≡_}
 use mathlib.Core.Bool.{Bool, true, false, not, _&&_}
@@ -132,7 +132,7 @@ abbrev pub thenIn : Next → List ℕ → List ℕ → Lexer → (Lexer → List
 thenIn (On m) t e l k = k m t e
 thenIn (Stop o) t e l k = record { answer = ended o l; tokens = t; errors = e }
 
--- the same behind a step
+-- the same after a step
 abbrev pub andThenIn : Did → Lexer → (Lexer → List ℕ → List ℕ → Done) → Done
 andThenIn d l k = thenIn (d .next) (d .tokens) (d .errors) l k
 

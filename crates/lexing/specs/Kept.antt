@@ -39,7 +39,7 @@ pub record Eof (n : ℕ) (d : TokenData) : Type 0 where
   pub line-from : 1 ≤ d .line
   pub line-to : d .line ≤ n + 1
 
--- n tokens in order, the last of which ends at `end` and has the line `line`: each starts at or behind the end of the one before it, and begins on its line or a later one
+-- n tokens in order, the last of which ends at `end` and has the line `line`: each starts at or after the end of the one before it, and begins on its line or a later one
 pub data InOrder : List ℕ → ℕ → ℕ → ℕ → Type 0 where
   first : InOrder [] 0 0 1
   behind : {ws : List ℕ} {n end line : ℕ} → InOrder ws n end line → (d : TokenData) → end ≤ d .start → line ≤ d .begins → d .begins ≤ d .line

@@ -24,7 +24,7 @@ word-line t i w e = sym (rw (eq-eqb _ _ e) refl)
 pub word-own : (t : List ℕ) (i w : ℕ) → (kindAt t i ≡ 1 → ⊥) → i + 1 ≡ cond (eqb (kindAt t i) Newline) w (i + 1)
 word-own t i w e = sym (rw (ne-eqb _ _ e) refl)
 
--- the word of a token with k more behind it
+-- the word of a token with k more after it
 pub line-word : (t : List ℕ) (i k : ℕ) → lineWord t (i + suc k) i ≡ i + linesFrom k t i + 1
 unfolding lineWord
 line-word t i k = let e : i + suc k - 1 - i ≡ k = omega arith in ap (λ (m : ℕ). i + linesFrom m t i + 1) e
@@ -51,11 +51,11 @@ unfolding lineWords
 words-length t i zero = refl
 words-length t i (suc k) = ap suc (words-length t (i + 1) k)
 
--- the index as the loop leaves it before token i: behind it as it is to be, before it as it was
+-- the index as the loop leaves it before token i: from token i on as it is to be, before it as it was
 abbrev pub filled : List ℕ → List ℕ → ℕ → ℕ → List ℕ
 filled t x n i = take i x ++ lineWords t i (n - i) ++ drop n x
 
--- before the first turn, and behind the last one
+-- before the first turn, and after the last one
 pub filled-none : (t x : List ℕ) (n : ℕ) → x ≡ filled t x n n
 unfolding lineWords
 filled-none t x n =

@@ -1,4 +1,4 @@
--- The newline index: one word for each token, the reference (index + 1) of the first token from there on that is no Newline.
+-- The newline index (docs/RULES.md, 'Index and looks'): one word for each token, the reference (index + 1) of the first token from there on that is no Newline.
 use Prim.Native.Nat.{ℕ, zero, suc, _+_, _-_}
 use mathlib.Core.Path.{_≡_}
 use mathlib.Core.Bool.{Bool, cond}
@@ -17,7 +17,7 @@ unfoldable pub lineWords : List ℕ → ℕ → ℕ → List ℕ
 lineWords t i zero = []
 lineWords t i (suc k) = lineWord t (i + suc k) i ∷ lineWords t (i + 1) k
 
--- the index x with the words of n tokens, and the words behind them as they were
+-- the index x with the words of n tokens, and the words after them as they were
 unfoldable pub lineIndex : List ℕ → ℕ → List ℕ → List ℕ
 lineIndex t n x = lineWords t 0 n ++ drop n x
 

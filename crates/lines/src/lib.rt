@@ -8,7 +8,7 @@ ghost use Rattle.parser.specs.Tokens.{kindAt};
 ghost use Rattle.lines.specs.Lines.{Indexed};
 use token::Token;
 
-// The word of token i, where behind is that of the token behind it: a Newline has the same one, any other token its own reference.
+// The word of token i, where `behind` is the word of the token after it: a Newline has the same word, any other token its own reference.
 fn word_at(tokens: &[u32], i: u32, behind: u32) -> u32
     requires { ⌜ i < 4294967295 ⌝ }
     ensures { λ r. ⌜ r ≡ cond (eqb (kindAt (now (tokens .entry)) i) Newline) behind (i + 1) ⌝ }

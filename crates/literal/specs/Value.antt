@@ -1,4 +1,4 @@
--- A literal's value and its record words (document 01, 'Records' and the paragraph on literals after rule 7).
+-- A literal's value and its record words (docs/RULES.md, 'Numbers' and 'Records').
 use Prim.Native.Nat.{ℕ, _^_, _%_, _/_}
 use mathlib.Core.Bool.{Bool, true, false, _&&_}
 use lib.Dec.{leb}

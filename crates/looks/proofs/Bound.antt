@@ -34,7 +34,7 @@ lower-keeps T (suc l) w u b D v p E N h g s =
     owed-less u b D (u + 100) (v + (100 - gain w)) (v + (100 + loss w)) _
     (run-owed T (lower T l) (lower-keeps T l) (body T w) (100 + loss w) 100 (100 - gain w) (u + 100) v p E N (body-cost T w) (omega arith)) (omega arith) (omega arith)
 
--- the newline test behind a top-level statement is paid for by the statement
+-- the newline test after a top-level statement is paid for by the statement
 top-owed : (T : View) (p : State) (E N : List ℕ) → p .looks ≤ 45 * p .current → Owed 1 1 27 (topLevel T p E N)
 unfolding topLevel
 top-owed T p E N h =

@@ -48,7 +48,7 @@ module _ (T : View) where
   unfolding closed
   closed-cost object brace c1 t1 c2 t2 c3 D a b h g = (a + 1, (omega arith, g), (a + 1, (omega arith, g), λ n. h))
 
-  -- behind the second colon
+  -- after the second colon
   third-cost : (object : Found) (brace c1 t1 c2 t2 D a b : ℕ) → 1 ≤ b → a ≤ b + 11 → a + 15 ≤ D → 16 ≤ D → Cost D a (thirdPart T object brace c1 t1 c2 t2) b
   third-cost object brace c1 t1 c2 t2 D a b k h g l = (a - 12, (omega arith, omega arith), λ n. closed-cost _ _ _ _ _ _ _ D (a - 12) b (omega arith) (omega arith))
 
@@ -152,7 +152,7 @@ module _ (T : View) where
   unfolding finishCall
   finish-call-cost callee D a b h g = (a + 1, arguments-cost RightParen D a (a + 1) (omega arith) g, λ e. (a - 43, (omega arith, omega arith), λ s. (omega arith, omega arith)))
 
-  -- each turn ends with no more debt than it began, if that is 3: an access without its closing mark makes up to 3 looks behind its last token
+  -- each turn ends with no more debt than it began, if that is 3: an access without its closing mark makes up to 3 looks after its last token
   call-from-cost : (f : ℕ) (e : Found) (D a b : ℕ) → 3 ≤ a → a + 3 ≤ b → a ≤ D → 20 ≤ D → Cost D a (callFrom T f e) b
   unfolding callFrom
   call-from-cost zero e D a b k h g l = g

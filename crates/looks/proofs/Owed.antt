@@ -98,7 +98,7 @@ pub owed-consume : (u b D : ℕ) (T : View) (kind m : ℕ) (p : State) (E N : Li
 unfolding consumeAt countedBy
 owed-consume u b D T kind m p E N h g = owed-seen _ _ _ (matchesAt T (p .current) kind) _ _ (λ i e. let a = matches-on T (p .current) kind i e in record { owed = omega arith }) (owed-error u b D (T .tokens) m (p .current) (looked p 1) E N (omega arith) (omega arith))
 
--- an unwrapped `consume` gives a node only behind its token
+-- an unwrapped `consume` gives a node only after its token
 owed-require : (u b D : ℕ) (T : View) (kind m : ℕ) (p : State) (E N : List ℕ) → ((i : ℕ) → matchesAt T (p .current) kind ≡ At i → p .looks + 1 + u ≤ 45 * i + b) → Within (u + 1) D p → Owed u b D (requireAt T kind m p E N)
 unfolding requireAt countedBy
 owed-require u b D T kind m p E N h g = owed-seen _ _ _ (matchesAt T (p .current) kind) _ _ (λ i e. let z = h i e in record { owed = omega arith }) (owed-then u b D D _ _ (owed-error u D D (T .tokens) m (p .current) (looked p 1) E N (omega arith) (omega arith)) λ f q E N l. record { owed = l })

@@ -43,7 +43,7 @@ told-then : (n m : ℕ) (r : Reply) (k : Found → Reader) (c : Found → Checks
 told-then n m (reply q (Node f) E N) k c t h = let z = h f (n + m) q E N (t .told) .told in record { told = omega arith }
 told-then n m (reply q (Stop o) E N) k c t h = let z = t .told in record { told = omega arith }
 
--- a look counts one, and what comes behind it
+-- a look counts one, and what comes after it
 told-look : (n : ℕ) (s : Seen) (f : ℕ → Reply) (g : Unit {0} → Reply) (c : ℕ → ℕ) (d : ℕ) → ((i : ℕ) → Told (n + 1 + c i) (f i)) → Told (n + 1 + d) (g tt) → Told (n + (1 + checksIf s c d)) (ifSeen s f g)
 told-look n (At i) f g c d h e = let z = h i .told in record { told = omega arith }
 told-look n Nothing f g c d h e = let z = e .told in record { told = omega arith }

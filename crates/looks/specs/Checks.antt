@@ -1,4 +1,4 @@
--- How often a parsing calls `check`, as a number without a limit, where the state keeps it in a word; and how many looks are allowed. What is found and where the reading goes on is asked of `run`: this counts only.
+-- How often a parsing calls `check`, as a number without a limit, where the state keeps it in a word; and how many looks are allowed (docs/RULES.md, 'Index and looks'). This only counts. It asks `run` what is found and where the reading goes on.
 use Prim.Native.Nat.{ℕ, zero, suc, _+_, _*_}
 use mathlib.Core.Bool.{cond}
 use mathlib.Core.List.{List}
@@ -25,7 +25,7 @@ abbrev pub onward : Reply → (Found → Checks) → ℕ
 onward (reply q (Node f) E N) k = k f q E N
 onward (reply q (Stop o) E N) k = 0
 
--- the calls made behind a look, by whether it found its token
+-- the calls made after a look, by whether it found its token
 abbrev pub checksIf : Seen → (ℕ → ℕ) → ℕ → ℕ
 checksIf (At i) found missing = found i
 checksIf Nothing found missing = missing
@@ -72,6 +72,6 @@ statementsChecks (suc f) T last p E N =
 unfoldable pub parsedChecks : ℕ → View → ℕ → List ℕ → List ℕ → ℕ
 parsedChecks rule T errors E N = statementsChecks (suc (count (T .tokens))) T 0 (freshState rule errors) E N
 
--- so many looks are allowed, where so many tokens are kept
+-- how many looks are allowed, where so many tokens are kept
 abbrev pub allowed : ℕ → ℕ
 allowed tokens = 45 * tokens

@@ -40,7 +40,7 @@ module _ (s : List ℕ) (start p d m : ℕ) (h : start < length s) (so : d ≡ c
   abbrev a : ℕ
   a = run isDigit t
 
-  -- the first byte, and what stands behind it
+  -- the first byte, and what stands after it
   at : numberAt (drop start s) ≡ numberOf (getD s start 0) t
   at = let e : drop start s ≡ getD s start 0 ∷ t = rw (add-one, drop-cons s start 0) in ap numberAt e
 

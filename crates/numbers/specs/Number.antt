@@ -1,4 +1,4 @@
--- Rule 4 of document 01: a number is digits, then if a point follows, the point and further digits, perhaps none.
+-- Numbers (docs/RULES.md, 'Numbers'), lexing's rule 4: a number is digits, then if a point follows, the point and further digits, perhaps none.
 use Prim.Native.Nat.{ℕ, suc, _+_, _-_, _*_, _^_}
 use mathlib.Core.Bool.{Bool, true, false, _&&_, cond}
 use mathlib.Core.List.{List, [], _∷_}
@@ -16,7 +16,7 @@ abbrev pub pointSize : List ℕ → ℕ
 pointSize [] = 0
 pointSize (x ∷ u) = cond (eqb x 46) (suc (run isDigit u)) 0
 
--- the same for what stands behind a number's first digit, past the digits that follow it
+-- the same for what stands after a number's first digit, past the digits that follow it
 abbrev pub pointed : List ℕ → ℕ
 pointed s = pointSize (drop (run isDigit s) s)
 
@@ -33,7 +33,7 @@ wholeOf (x ∷ xs) m = wholeOf xs (cond (isDigit x) (10 * m + (x - 48)) m)
 abbrev pub capped : ℕ → ℕ
 capped n = cond (leb n (2 ^ 53)) n (2 ^ 53 + 1)
 
--- the number with the first byte b, and s behind it: its size; whether it has a point and runs to the last byte; m; and k, the digits after the point
+-- the number with the first byte b, and s after it: its size; whether it has a point and runs to the last byte; m; and k, the digits after the point
 abbrev pub numberOf : ℕ → List ℕ → Numeral
 numberOf b s = record {
   size = suc (numberSize s);

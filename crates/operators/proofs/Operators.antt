@@ -46,8 +46,8 @@ level-drop ls zero b = let z : b ≡ 0 + b = omega arith in ap (levelAt ls) z
 level-drop [] (suc a) b = refl
 level-drop (l ∷ ls) (suc a) b = level-drop ls a b ∙ ap (levelAt (l ∷ ls)) (more a b)
 
--- what is known of an operator of level n, the loosest 0: its rank is the level's; it is no Newline and no EOF; the tests up to it in its level, with those behind
--- it, are all of the levels up to its own; and those behind it are at least all of the looser levels, and fewer than with its own
+-- what is known of an operator of level n, the loosest 0: its rank is the level's; it is no Newline and no EOF; the tests up to it in its level, with those after
+-- it, are all of the levels up to its own; and those after it are at least all of the looser levels, and fewer than with its own
 record Ranked (n k : ℕ) : Type 0 where
   level : rankIn 1 levels k ≡ suc n
   line : eqb k 1 ≡ false
@@ -187,7 +187,7 @@ rank-most (l ∷ ls) m kind = go (among (l .operators) kind) (rank-most ls (suc 
     go true h = omega arith
     go false h = omega (arith, h)
 
--- a kind of no level has all tests behind it
+-- a kind of no level has all tests after it
 behind-all : (ls : List Level) (m n kind : ℕ) → rankIn (suc m) ls kind ≡ 0 → behindIn n ls kind ≡ n + testsOf ls (length ls)
 unfolding rankIn behindIn testsOf
 behind-all [] m n kind e = omega arith
@@ -218,7 +218,7 @@ tests-most n =
     omega (arith, t, e)
 
 module _ (kind : ℕ) where
-  -- an operator of level n is tighter than `looser` where the tests behind it are at least those up to there
+  -- an operator of level n is tighter than `looser` where the tests after it are at least those up to there
   above : (n looser : ℕ) → Ranked n kind → leb (testsOf levels looser) (behindIn 0 levels kind) ≡ ltb looser (suc n)
   above n looser k = ⊎-elim tighter not-tighter (lt-or-le looser (suc n))
     where
@@ -369,7 +369,7 @@ module _ (T : View) (low : Which → Reader) where
   onward-all (l ∷ m ∷ ls) p E N = ap (λ (r : Reply). andThen r λ h q E N. run T low (binaryFrom T l (binary T (m ∷ ls)) (fuel T) h) q E N) (onward-all (m ∷ ls) p E N) ∙ then-then (run T low (unary T) p E N) (λ g q E N. run T low (onward T (fuel T) (m ∷ ls) (length (m ∷ ls)) g) q E N) (λ h q E N. run T low (binaryFrom T l (binary T (m ∷ ls)) (fuel T) h) q E N)
 
   module _ (f : ℕ) (g : Found) (p q : State) (E N : List ℕ) where
-    -- an operator of the level, in state q behind it
+    -- an operator of the level, in state q after it
     onward-found : (ls : List Level) (n : ℕ) → n < length ls → (j : ℕ) → ((found : ℕ → Prog) (missing : Prog) → run T low (lookMany T (levelAt ls n .operators) found missing) p E N ≡ run T low (found j) q E N) →
         run T low (onward T (suc f) ls (suc n) g) p E N ≡ andThen (run T low (binary T (drop (suc n) ls)) q E N) λ right q E N. andThen (pushNode (operation (levelAt ls n) (g .node) j (right .node)) q E N) λ o q E N. run T low (onward T f ls (suc n) o) q E N
     unfolding run onward binaryFrom
@@ -389,7 +389,7 @@ module _ (T : View) (low : Which → Reader) where
     onward-missing (l ∷ ls) (suc zero) h e = ap (λ (r : Reply). andThen r λ h q E N. run T low (binaryFrom T l (binary T ls) (fuel T) h) q E N) (onward-missing ls zero (omega arith) e)
     onward-missing (l ∷ ls) (suc (suc n)) h e = ap (λ (r : Reply). andThen r λ h q E N. run T low (binaryFrom T l (binary T ls) (fuel T) h) q E N) (onward-missing ls (suc n) (omega arith) e)
 
--- the fuel behind a turn that n levels ended before: a level's own runs on, and a level that is entered anew has all of it
+-- the fuel after a turn that n levels ended before: a level's own runs on, and a level that is entered anew has all of it
 unfoldable pub spare : View → ℕ → ℕ → ℕ
 spare T f zero = f
 spare T f (suc n) = count (T .tokens)
@@ -399,7 +399,7 @@ unfolding spare
 spare-all T zero = refl
 spare-all T (suc n) = refl
 
--- is enough for the tokens from one on
+-- that fuel is enough for the tokens from one on
 pub spare-enough : (T : View) (at f n : ℕ) → count (T .tokens) - at ≤ f → count (T .tokens) - at ≤ spare T f n
 unfolding spare
 spare-enough T at f zero h = h

@@ -21,14 +21,14 @@ rankIn n (l ∷ ls) kind = elim (among (l .operators) kind) [ true ↦ n | false
 abbrev pub binaryAt : View → ℕ → Prog
 binaryAt T looser = binary T (drop looser levels)
 
--- behind a first operand: the loops of the first n levels of a list, the tightest of them first, which has so much fuel left
+-- after a first operand: the loops of the first n levels of a list, the tightest of them first, which has so much fuel left
 unfoldable pub onward : View → ℕ → List Level → ℕ → Found → Prog
 onward T f ls zero g = give g
 onward T f [] (suc n) g = give g
 onward T f (l ∷ ls) (suc zero) g = binaryFrom T l (binary T ls) f g
 onward T f (l ∷ ls) (suc (suc n)) g = onward T f ls (suc n) g >>= λ h. binaryFrom T l (binary T ls) (fuel T) h
 
--- `binaryAt` behind its first operand, before any turn: it has seven levels but for the loosest so many
+-- `binaryAt` after its first operand, before any turn: it has seven levels but for the loosest so many
 abbrev pub behindFirst : View → ℕ → Found → Prog
 behindFirst T looser g = onward T (fuel T) (drop looser levels) (7 - looser) g
 
@@ -38,13 +38,13 @@ testsOf ls zero = 0
 testsOf [] (suc n) = 0
 testsOf (l ∷ ls) (suc n) = length (l .operators) + testsOf ls n
 
--- how many of the tests come behind the one that finds an operator of this kind, n of them in levels that are looser than all these: the loops end from the tightest
+-- how many of the tests come after the one that finds an operator of this kind, n of them in levels that are looser than all these: the loops end from the tightest
 -- level to the loosest, and a level's operators are tried in their order. All of them where none finds it
 unfoldable pub behindIn : ℕ → List Level → ℕ → ℕ
 behindIn n [] kind = n
 behindIn n (l ∷ ls) kind = elim (among (l .operators) kind) [ true ↦ n + length (l .operators) - placeIn 1 (l .operators) kind | false ↦ behindIn (n + length (l .operators)) ls kind ]
 
--- the turn that an operator of level rank makes, behind whose test come so many: the levels up to `looser` are the caller's to read, and the loops of those tighter than
+-- the turn that an operator of level rank makes, with so many tests after its own: the levels up to `looser` are the caller's to read, and the loops of those tighter than
 -- `tightest` have ended, so that one between takes it. Its right operand is `binaryAt` rank, the tighter levels alone. The looks are the tests up to it; where none
 -- takes it, all tests of the levels between
 unfoldable pub turnOf : ℕ → ℕ → ℕ → ℕ → ℕ → Tried

@@ -60,7 +60,7 @@ fn tests_of(level: u32) -> u32
     }
 }
 
-// How many of the tests come behind the one that finds this operator, the tightest level's first; all of them for any other kind.
+// How many of the tests come after the one that finds this operator, the tightest level's first; all of them for any other kind.
 fn behind_of(kind: u32) -> u32
     ensures { λ r. ⌜ r ≡ behindIn 0 levels kind ⌝ }
 {
@@ -83,7 +83,7 @@ fn behind_of(kind: u32) -> u32
     }
 }
 
-// The tests that are made, of so many, where those behind are not.
+// How many of so many tests are made, where those that come after are not.
 fn without(tests: u32, behind: u32) -> u32
     ensures { λ r. ⌜ r ≡ tests - behind ⌝ }
 {
@@ -94,7 +94,7 @@ fn without(tests: u32, behind: u32) -> u32
 }
 
 // The turn at a token, where the levels tighter than `looser` are read and the last turn left those up to `tightest` open. An operator's level is between the two
-// just where so many tests as come behind its own are among theirs.
+// exactly if the number of tests that come after its own is at least that of the levels up to `looser`, and below that of the levels up to `tightest`.
 pub fn turn_at(tokens: &[u32], index: &[u32], at: u32, looser: u32, tightest: u32) -> Tried
     ensures { λ r. ⌜ r ≡ turnAt (indexed (now (tokens .entry)) (now (index .entry))) at looser tightest ⌝ }
 {

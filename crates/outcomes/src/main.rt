@@ -1,5 +1,5 @@
-// Prints the outlines of the scripts in data/, one after the other: every outcome occurs, and the examples are among them. What is right stands
-// in the file `stdout`, which the Rust crate `vectors` makes with the scripts.
+// Prints the outlines of the scripts in data/, one after the other: every outcome occurs, and the examples are among them. The file `stdout`
+// has the right answers. The Rust crate `vectors` makes it with the scripts.
 fn main() {
     for i in 0..SCRIPTS {
         script(i);

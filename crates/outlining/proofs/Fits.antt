@@ -86,7 +86,7 @@ outline-fits s = at (ltb 4096 (length s))
         let c : r .nodeCount ≤ 1600 = subst (λ (m : ℕ). r .nodeCount ≤ m) (words-room nodeWidth (nodeWidth * 1600) 1600 refl) (w .nodes-fit) in
         omega arith
 
--- what a buffer of at least that size holds is the whole outline, and behind it what it held before
+-- what a buffer of at least that size holds is the whole outline, and after it what it held before
 pub holds-whole : (s B u : List ℕ) (at : ℕ) → 287353 ≤ length B → Holds (outlineOf s) B u at → (at ≡ length (outlineOf s)) × (u ≡ outlineOf s ++ drop at B)
 holds-whole s B u at l h =
     let f = outline-fits s in

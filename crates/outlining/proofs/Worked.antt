@@ -1,4 +1,4 @@
--- Outlines of worked scripts, document 01's first, by computation: a token's fifth number is the line where it begins. Assumes nothing.
+-- Outlines of worked scripts, the example of docs/RULES.md, 'Outline', first, by computation: a token's fifth number is the line where it begins. Assumes nothing.
 use Prim.Native.Nat.{ℕ}
 use Prim.Native.String.{String}
 use mathlib.Core.Path.{_≡_, refl}
@@ -23,7 +23,7 @@ use Rattle.text.proofs.Codes.{codes}
 data Outlined : Type 0 where
   outlined : String → String → Outlined
 
--- `a = 1` and a newline, document 01's example; a string of three lines; newlines of the source and the added one; the empty script
+-- `a = 1` and a newline, that example; a string of three lines; newlines of the source and the added one; the empty script
 abbrev scripts : List Outlined
 scripts =
     outlined "a = 1\n" "o 0 5 0 4 4\nt 25 0 1 1 1\nt 19 2 1 1 1\nt 27 4 1 1 1\nt 1 5 1 2 1\nt 0 6 0 2 2\nn 2 1 0 0 0 0 0 0 0\nn 13 3 0 0 0 0 0 0 0\nn 5 1 0 0 2 0 0 0 0\nn 30 3 0 0 3 0 0 0 0\n" ∷

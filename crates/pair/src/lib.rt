@@ -4,7 +4,7 @@ ghost use Rattle.steps.specs.Steps.{begun, nextOf};
 use entry::Answer;
 use host::Parser;
 
-// `begin` for Rust and C: lexes the source, and leaves a parser that reads its statements. Of the parser that is lent only the rule and the way count.
+// `begin` for Rust and C: lexes the source, and leaves a parser that reads its statements. Only the rule and the way of the lent parser matter.
 #[no_mangle]
 pub extern "C" fn kettleplume_begin(
     parser: &mut Parser,

@@ -1,4 +1,4 @@
--- The readers of parser.rs, `declaration` to `super_expr`, in the order of the file. Each is a program; a loop is a recursion on fuel, which is never used up.
+-- The readers of parser.rs (docs/RULES.md, 'Parsing'), `declaration` to `super_expr`, in the order of the file. Each is a program; a loop is a recursion on fuel, which is never used up.
 use Prim.Native.Nat.{ℕ, zero, suc, _+_}
 use mathlib.Core.Bool.{Bool, true, false, _&&_}
 use mathlib.Core.List.{List, [], _∷_}
@@ -18,12 +18,12 @@ use Rattle.parser.specs.Nodes.{fnExprRow, varRow, listRow, dictionaryRow
 use Rattle.parser.specs.Programs.{Reader, Which, Declaration, Assignment, Operand, Prog, give, stop, _>>=_, _>>_, look, check, atEnd, previous, node, link, fail, failAt, consume, require, enterLoop, leaveLoop, giveBack, insideLoop, inFunction, down, run}
 
 -- ---- what readers build
--- a list's first member: the one it has, or the one that is added
+-- a list's first member: the one that it has, or else the one that is added
 unfoldable pub firstOf : ℕ → ℕ → ℕ
 firstOf zero n = n
 firstOf (suc f) n = suc f
 
--- nothing
+-- it finds nothing
 abbrev pub nothing : Prog
 nothing = give (plain 0)
 
@@ -66,12 +66,12 @@ abbrev pub rowIf : Bool → rows.Node → rows.Node → rows.Node
 rowIf true a b = a
 rowIf false a b = b
 
--- by a test on numbers
+-- the first program where the test holds, else the second
 abbrev pub when : Bool → Prog → Prog → Prog
 when true a b = a
 when false a b = b
 
--- the made-up order of `=`: Var gives Assign, Get gives Set, anything else is message 23 at the `=`
+-- what `=` makes, by what stands left of it: a Var gives an Assign, a Get a Set, anything else is message 23 at the `=`
 abbrev pub assigned : Form → ℕ → ℕ → ℕ → Prog
 assigned (Name t) access value equal = node (assignRow t value access)
 assigned (Property t o) access value equal = node (setRow o t value access)
@@ -83,7 +83,7 @@ pub record Level : Type 0 where
   pub logical : Bool
   pub operators : List ℕ
 
--- loosest first
+-- the levels, loosest first
 abbrev pub levels : List Level
 levels =
     record { logical = true; operators = Or ∷ [] } ∷
@@ -95,7 +95,7 @@ levels =
     record { logical = false; operators = Power ∷ [] } ∷
     []
 
--- a Logical or a Binary
+-- the row of an operation: a Logical or a Binary
 abbrev pub operation : Level → ℕ → ℕ → ℕ → rows.Node
 operation level left operator right = rowIf (level .logical) (logicalRow left operator right) (binaryRow left operator right)
 
@@ -178,7 +178,7 @@ module _ (T : View) where
           link last (n .node)
           methodsFrom f k (firstOf first (n .node)) (n .node) firstStatic lastStatic)))
 
-  -- `class`: its name, a superclass behind `<`, its methods
+  -- `class`: its name, a superclass after `<`, its methods
   unfoldable pub class : Prog
   class = do
     name ← consume Identifier expectedVariableName
@@ -378,27 +378,27 @@ module _ (T : View) where
     n ← node (accessRow (object .node) brace first firstColon second secondColon third)
     give (through object (n .node))
 
-  -- `slice`, behind the second colon: the third part
+  -- `slice`, after the second colon: the third part
   abbrev pub thirdPart : Found → ℕ → ℕ → ℕ → ℕ → ℕ → Prog
   thirdPart object brace first firstColon second secondColon = do
     third ← expression
     closed object brace first firstColon second secondColon (third .node)
 
-  -- `slice`, behind a first colon that comes first
+  -- `slice`, after a first colon that comes first
   abbrev pub openSlice : Found → ℕ → ℕ → Prog
   openSlice object brace c =
       look Colon (λ d. thirdPart object brace 0 c 0 d) (do
         second ← expression
         look Colon (λ d. thirdPart object brace 0 c (second .node) d) (closed object brace 0 c (second .node) 0 0))
 
-  -- `slice`, behind the second colon, where the third part may be absent
+  -- `slice`, after the second colon, where the third part may be absent
   abbrev pub lastPart : Found → ℕ → ℕ → ℕ → ℕ → ℕ → Prog
   lastPart object brace first c second d =
       check RightBrace (closed object brace first c second d 0) (
       atEnd (closed object brace first c second d 0)
       (thirdPart object brace first c second d))
 
-  -- `slice`, behind a first part and the first colon
+  -- `slice`, after a first part and the first colon
   abbrev pub slice : Found → ℕ → ℕ → ℕ → Prog
   slice object brace first c =
       look Colon (λ d. thirdPart object brace first c 0 d) (
@@ -460,7 +460,7 @@ module _ (T : View) where
       look LeftBrace (λ i. do n ← access e i; callFrom f n)
       (give e)))
 
-  -- `call`: calls, dots and indexes behind a primary
+  -- `call`: calls, dots and indexes after a primary
   unfoldable pub call : Prog
   call = do
     e ← primary

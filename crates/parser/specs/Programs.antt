@@ -40,7 +40,7 @@ pub data Prog : Type 0 where
   previous : Prog
   -- a new node
   node : rows.Node → Prog
-  -- the second node comes behind the first in a list
+  -- the second node comes after the first in a list
   link : ℕ → ℕ → Prog
   -- an error with the line of the token at the cursor, or of the token with that reference
   fail : ℕ → Prog
@@ -48,7 +48,7 @@ pub data Prog : Type 0 where
   -- `self.consume(kind, message)`, and the same unwrapped
   consume : ℕ → ℕ → Prog
   require : ℕ → ℕ → Prog
-  -- `self.enter_loop()`, `self.leave_loop()`, the same behind an enhanced for where the rule says so, `if self.inside_loop()`
+  -- `self.enter_loop()`, `self.leave_loop()`, the same after an enhanced for where the rule says so, `if self.inside_loop()`
   enterLoop : Prog
   leaveLoop : Prog
   giveBack : Prog
@@ -62,7 +62,7 @@ pub data Prog : Type 0 where
 unfoldable pub raised : ℕ → ℕ
 raised n = elim (ltb n 4294967295) [ true ↦ n + 1 | false ↦ n ]
 
--- by a test
+-- the first where the test holds, else the second
 abbrev pub either : Bool → (Unit {0} → Reply) → (Unit {0} → Reply) → Reply
 either true a b = a tt
 either false a b = b tt

@@ -29,11 +29,11 @@ moved p i = record { rule = p .rule; current = i; errors = p .errors; nodes = p 
 abbrev pub looped : State → ℕ → State
 looped p n = record { rule = p .rule; current = p .current; errors = p .errors; nodes = p .nodes; loops = n; looks = p .looks }
 
--- with so many nodes
+-- the reading goes on with so many nodes
 abbrev pub withNodes : State → ℕ → State
 withNodes p n = record { rule = p .rule; current = p .current; errors = p .errors; nodes = n; loops = p .loops; looks = p .looks }
 
--- with so many errors
+-- the reading goes on with so many errors
 abbrev pub withErrors : State → ℕ → State
 withErrors p n = record { rule = p .rule; current = p .current; errors = n; nodes = p .nodes; loops = p .loops; looks = p .looks }
 
@@ -45,7 +45,7 @@ freshState rule errors = record { rule = rule; current = 0; errors = errors; nod
 unfoldable pub countedBy : ℕ → ℕ → ℕ
 countedBy n looks = looks + min n (4294967295 - looks)
 
--- with so many looks more
+-- the reading goes on with so many looks more
 abbrev pub looked : State → ℕ → State
 looked p n = record { rule = p .rule; current = p .current; errors = p .errors; nodes = p .nodes; loops = p .loops; looks = countedBy n (p .looks) }
 
@@ -81,12 +81,12 @@ pushNode d p E N = elim (ltb (p .nodes) (room nodeWidth N)) [ true ↦ nodeMade 
 unfoldable pub pushError : List ℕ → ℕ → ℕ → State → List ℕ → List ℕ → Reply
 pushError T message i p E N = elim (ltb (p .errors) (room errorWidth E)) [ true ↦ errorMade (errorAt T message i) p E N | false ↦ reply p (Stop noErrorRoom) E N ]
 
--- by whether a token was found
+-- the first with the token's index where one was found, else the second
 abbrev pub ifSeen : Seen → (ℕ → Reply) → (Unit {0} → Reply) → Reply
 ifSeen (At i) found missing = found i
 ifSeen Nothing found missing = missing tt
 
--- with what was found the reading goes on; a stop stops it
+-- the reading goes on with what was found; a stop ends it
 abbrev pub andThen : Reply → (Found → State → List ℕ → List ℕ → Reply) → Reply
 andThen (reply p (Node f) E N) k = k f p E N
 andThen (reply p (Stop o) E N) k = reply p (Stop o) E N

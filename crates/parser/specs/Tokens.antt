@@ -25,7 +25,7 @@ startAt T i = field tokenWidth 1 T i
 unfoldable pub lineAt : List ℕ → ℕ → ℕ
 lineAt T i = field tokenWidth 3 T i
 
--- the token behind token i; there is none behind EOF
+-- the token after token i; there is none after EOF
 unfoldable pub after : List ℕ → ℕ → ℕ
 after T i = elim (eqb (kindAt T i) EOF) [ true ↦ i | false ↦ i + 1 ]
 
@@ -35,7 +35,7 @@ pub record View : Type 0 where
   pub tokens : List ℕ
   pub hop : ℕ → ℕ
 
--- so many of the next n tokens are Newlines, up to the first that is none
+-- how many of the next n tokens are Newlines, up to the first that is none
 unfoldable pub linesFrom : ℕ → List ℕ → ℕ → ℕ
 linesFrom zero t i = 0
 linesFrom (suc n) t i = elim (eqb (kindAt t i) Newline) [ true ↦ suc (linesFrom n t (i + 1)) | false ↦ 0 ]
@@ -52,7 +52,7 @@ indexed t x = record { tokens = t; hop = λ i. field indexWidth 0 x i - 1 - i }
 unfoldable pub skipLines : View → ℕ → ℕ
 skipLines T i = elim (eqb (kindAt (T .tokens) i) Newline) [ true ↦ i + T .hop i | false ↦ i ]
 
--- the next token that is no Newline: its kind, and the token behind it
+-- the next token that is no Newline: its kind, and the token after it
 abbrev pub peekAt : View → ℕ → Coming
 peekAt T i = record { kind = kindAt (T .tokens) (skipLines T i); past = after (T .tokens) (skipLines T i) }
 

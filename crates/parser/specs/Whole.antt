@@ -26,7 +26,7 @@ pub record Parsed : Type 0 where
   pub errors : List ℕ
   pub nodes : List ℕ
 
--- it ends in a state, with so many nodes kept: every word of the node table past them is 0
+-- the parsing ends in a state, with so many nodes kept: every word of the node table past them is 0
 abbrev pub ends : ℕ → ℕ → ℕ → State → List ℕ → List ℕ → Parsed
 ends outcome first kept p E N = record { outcome = outcome; errorCount = p .errors; nodeCount = kept; first = first; looks = p .looks; errors = E; nodes = zeroed nodeWidth N kept }
 
@@ -43,7 +43,7 @@ abbrev pub orEnds : ℕ → ℕ → Reply → (ℕ → State → List ℕ → Li
 orEnds first kept (reply q (Node f) E N) k = k (f .node) q E N
 orEnds first kept (reply q (Stop o) E N) k = ends o first kept q E N
 
--- by whether EOF is reached
+-- the first where EOF is reached, else the second
 abbrev pub ifEnd : Bool → (Unit {0} → Parsed) → (Unit {0} → Parsed) → Parsed
 ifEnd true a b = a tt
 ifEnd false a b = b tt

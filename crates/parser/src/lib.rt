@@ -85,7 +85,7 @@ pub fn line_at(tokens: &[u32], i: u32) -> u32
     records::token_line(tokens, i)
 }
 
-// The token behind token i; there is none behind EOF.
+// The token after token i; there is none after EOF.
 pub fn next(tokens: &[u32], i: u32) -> u32
     ensures { λ r. ⌜ r ≡ after (now (tokens .entry)) i ⌝ }
 {
@@ -95,7 +95,7 @@ pub fn next(tokens: &[u32], i: u32) -> u32
     i + 1
 }
 
-// Past the newlines: from a Newline the index leads on, and it is trusted only so far that it never leads back.
+// Past the newlines: from a Newline the index leads on. A word of it that would lead back is ignored.
 fn skip(tokens: &[u32], index: &[u32], at: u32) -> u32
     ensures { λ r. ⌜ r ≡ skipLines (indexed (now (tokens .entry)) (now (index .entry))) at ⌝ }
 {
@@ -151,7 +151,7 @@ pub fn check(tokens: &[u32], index: &[u32], at: u32, kind: u32) -> Seen
     }
 }
 
-// `matches`: the cursor behind the token found.
+// `matches`: the cursor after the token found.
 pub fn matches(tokens: &[u32], index: &[u32], at: u32, kind: u32) -> Seen
     ensures { λ r. ⌜ r ≡ matchesAt (indexed (now (tokens .entry)) (now (index .entry))) at kind ⌝ }
 {
@@ -296,7 +296,7 @@ impl State {
         self.with_loops(n - 1)
     }
 
-    // Behind an enhanced for: rule two leaves its loop as a classic for's is left; rule one keeps the count, as the Rust does.
+    // After an enhanced for: rule two leaves its loop as a classic for's is left; rule one keeps the count, as the Rust does.
     pub fn give_back(self) -> Self
         ensures { λ r. ⌜ r ≡ looped self (loopsBehind (self .rule) (self .loops)) ⌝ }
     {
@@ -340,7 +340,7 @@ pub fn stopped(p: State, outcome: u32) -> Out
 
 // ---- writing
 
-// A list's first member: the one it has, or the one that is added. `records::link` puts a node behind the last.
+// A list's first member: the one it has, or the one that is added. `records::link` puts a node after the last.
 pub fn first_of(first: u32, n: u32) -> u32
     ensures { λ r. ⌜ r ≡ firstOf first n ⌝ }
 {

@@ -1,4 +1,4 @@
--- What stands behind EOF does not matter: over two token tables that agree up to an EOF, every reading that starts at or before it does the same, and stays there. So a parsing depends on no token behind EOF; and it ends with one of five outcomes.
+-- What stands after EOF does not matter: over two token tables that agree up to an EOF, every reading that starts at or before it does the same, and stays there. So a parsing depends on no token after EOF; and it ends with one of five outcomes.
 use mathlib.Core.Path.{_≡_, refl, subst, subst⁻¹}
 use mathlib.Core.List.{List, [], _∷_}
 use mathlib.Core.Bool.{Bool, true, false, _&&_, _||_}

@@ -1,4 +1,4 @@
--- What a reading leaves as it was: errors and nodes are written at and behind their counts only, counts never fall and stay within the rooms, and tables keep their lengths.
+-- What a reading leaves as it was: errors and nodes are written only at and after their counts, counts never fall and stay within the rooms, and tables keep their lengths.
 use mathlib.Core.Path.{_≡_, refl, sym, ap, _∙_, subst}
 use mathlib.Core.Bool.{Bool, true, false, cond, _&&_}
 use mathlib.Core.List.{List}
@@ -29,7 +29,7 @@ use Rattle.parser.specs.Grammar.{firstOf, body, lower}
 use Rattle.parser.specs.Whole.{Parsed, ends, topLevel, orEnds, ifEnd, statements, parsed}
 use Rattle.parser.proofs.Push.{push-node, push-error}
 
--- from a errors in E to b errors in E′: the first a are kept, and behind b all is as it was
+-- from a errors in E to b errors in E′: the first a are kept, and after b all is as it was
 pub record ErrorsGrow (a : ℕ) (E : List ℕ) (b : ℕ) (E′ : List ℕ) : Type 0 where
   pub more : a ≤ b
   pub long : length E′ ≡ length E
@@ -37,7 +37,7 @@ pub record ErrorsGrow (a : ℕ) (E : List ℕ) (b : ℕ) (E′ : List ℕ) : Typ
   pub kept : take (errorWidth * a) E′ ≡ take (errorWidth * a) E
   pub rest : drop (errorWidth * b) E′ ≡ drop (errorWidth * b) E
 
--- from a nodes in N to b nodes in N′: of a record before a or behind b only `next`, word 8, may be another
+-- from a nodes in N to b nodes in N′: of a record before a or after b only `next`, word 8, may be another
 pub record NodesGrow (a : ℕ) (N : List ℕ) (b : ℕ) (N′ : List ℕ) : Type 0 where
   pub more : a ≤ b
   pub long : length N′ ≡ length N
@@ -223,7 +223,7 @@ unfolding lower
 lower-frames T zero w p E N = grown-none p p (Stop 8) E N refl refl
 lower-frames T (suc l) w p E N = run-frames T (lower T l) (lower-frames T l) (body T w) p E N
 
--- ---- the whole: a parsing ends with c nodes in N′, and every word behind them is 0
+-- ---- the whole: a parsing ends with c nodes in N′, and every word after them is 0
 pub record NodesEnd (a : ℕ) (N : List ℕ) (c : ℕ) (N′ : List ℕ) : Type 0 where
   pub more : a ≤ c
   pub long : length N′ ≡ length N
@@ -309,7 +309,7 @@ module _ (rule : ℕ) (T : View) (errors : ℕ) (E N : List ℕ) where
   unfolding parsed
   parsed-frame = statements-end (suc (count (T .tokens))) T 0 0 (freshState rule errors) E N
 
-  -- the errors from before are kept, none is taken away, and behind the last one the table is as it was
+  -- the errors from before are kept, none is taken away, and after the last one the table is as it was
   pub parsed-errors-kept : ErrorsGrow errors E (parsed rule T errors E N .errorCount) (parsed rule T errors E N .errors)
   parsed-errors-kept = parsed-frame .errors
 

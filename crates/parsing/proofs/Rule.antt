@@ -1,4 +1,4 @@
--- No reader changes the rule that the state carries; and by rule one an enhanced for is read as it stood before there were rules. Assumes nothing.
+-- No reader changes the rule that the state carries; and by rule one an enhanced for is read as the original reads it. Assumes nothing.
 use mathlib.Core.Path.{_≡_, refl, ap, subst}
 use mathlib.Core.Bool.{Bool, true, false}
 use mathlib.Core.List.{List}
@@ -117,17 +117,17 @@ module _ (T : View) (l : ℕ) where
   unfolding run
   one-keeps p E N h = ap (λ (rule : ℕ). reply (looped p (loopsBehind rule (p .loops))) (Node (plain 0)) E N) h
 
-  -- `for_loop` behind its first name, as document 01 has it
-  abbrev pub enhancedOf01 : ℕ → Prog
-  enhancedOf01 keyword = do
+  -- `for_loop` once it has seen a name, as the original has it
+  abbrev pub enhancedAsBefore : ℕ → Prog
+  enhancedAsBefore keyword = do
     ids ← namesFrom T (fuel T) 0 0
     consume In expectedIn
     collection ← expression
     stmt ← down Declaration
     node (enhancedForRow keyword (ids .node) (collection .node) (stmt .node))
 
-  -- BY RULE ONE AN ENHANCED FOR IS DOCUMENT 01'S
-  pub one-enhanced : (keyword : ℕ) (p : State) (E N : List ℕ) → p .rule ≡ one → run T low (enhancedFor T keyword) p E N ≡ run T low (enhancedOf01 keyword) p E N
+  -- BY RULE ONE AN ENHANCED FOR IS READ AS THE ORIGINAL READS IT
+  pub one-enhanced : (keyword : ℕ) (p : State) (E N : List ℕ) → p .rule ≡ one → run T low (enhancedFor T keyword) p E N ≡ run T low (enhancedAsBefore keyword) p E N
   unfolding run enhancedFor
   one-enhanced keyword p E N h =
       then-one _ _ _ (by-one (namesFrom T (fuel T) 0 0) p E N h) λ ids p E N h.

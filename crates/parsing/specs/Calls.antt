@@ -1,5 +1,5 @@
 -- The call stack of parser.rs with its names, as the Rust keeps it: a second meaning of the same programs. `leave_function` compares the name on top of the stack
--- with the one that `enter_function` was given. That the comparison never fails is proved, so that the meaning in Programs, which keeps only loop counts, says the same. `parse` itself enters a function
+-- with the one that `enter_function` was given. It is proved that the comparison never fails, so the meaning in Programs, which keeps only loop counts, says the same. `parse` itself enters a function
 -- with the empty name and leaves it where it reaches EOF.
 use Prim.Native.Nat.{ℕ, zero, suc, _-_}
 use mathlib.Core.Bool.{Bool, true, false}
@@ -79,12 +79,12 @@ thenNamed (named (reply p (Node f) E N) cs) k = k f p cs E N
 thenNamed (named (reply p (Stop o) E N) cs) k = named (reply p (Stop o) E N) cs
 thenNamed unequal k = unequal
 
--- by whether a token was found
+-- the first with the token's index where one was found, else the second
 abbrev pub ifNamed : Seen → (ℕ → Named) → (Unit {0} → Named) → Named
 ifNamed (At i) found missing = found i
 ifNamed Nothing found missing = missing tt
 
--- by a test
+-- the first where the test holds, else the second
 abbrev pub eitherNamed : Bool → (Unit {0} → Named) → (Unit {0} → Named) → Named
 eitherNamed true a b = a tt
 eitherNamed false a b = b tt

@@ -18,7 +18,7 @@ use Rattle.parser.proofs.Look.{check-found, check-none}
 use Rattle.parser.proofs.Write.{looked-more, looked-none}
 use Rattle.progress.proofs.Moves.{never}
 
--- the next token that is no Newline: its kind, and the token behind it
+-- the next token that is no Newline: its kind, and the token after it
 pub record Next (T : View) (at kind j : ℕ) : Type 0 where
   pub its : kindAt (T .tokens) (skipLines T at) ≡ kind
   pub behind : after (T .tokens) (skipLines T at) ≡ j
@@ -62,7 +62,7 @@ module _ (T : View) (low : Which → Reader) (k : ℕ) (f : ℕ → Prog) (m : P
   look-past l h = ap seen (match-other T (p .current) kind j k n l h)
 
 -- ---- tests one after the other, as a table
--- a kind that is looked for, and what is read behind such a token
+-- a kind that is looked for, and what is read after such a token
 pub record Row : Type 0 where
   pub kind : ℕ
   pub found : ℕ → Prog

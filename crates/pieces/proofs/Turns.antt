@@ -20,7 +20,7 @@ use Rattle.pieces.proofs.NextKind.{Next, match-here}
 use Rattle.progress.proofs.Leaf.{matches-at}
 use Rattle.progress.proofs.Moves.{Past, moves, moves-on, lower-moves, never-back, reading-moves, never}
 
--- `matches` found a token that is not EOF: it is behind the cursor, and the cursor was at a token
+-- `matches` found a token that is not EOF: the reading goes on after where the cursor was, and the cursor was at a token
 pub found-past : (T : View) (at kind i : ℕ) (s : Seen) → s ≡ matchesAt T at kind → s ≡ At i → ltb 0 kind ≡ true → (at < i) × (at < count (T .tokens))
 found-past T at zero i s e f h = never h
 found-past T at (suc k) i s e f h = matches-at T at k i (sym e ∙ f)

@@ -1,4 +1,4 @@
--- Programs of the code's own functions, where the Rust has none of that name: parts of the readers.
+-- Programs of the code's own functions, where the Rust has no function of that name: parts of the readers.
 use Prim.Native.Nat.{ℕ, _+_}
 use mathlib.Core.Bool.{Bool, true, false, _||_}
 use mathlib.Core.List.{List, [], _∷_}
@@ -21,7 +21,7 @@ runAt T l P = run T (lower T l) P
 abbrev pub superclass : Prog
 superclass = look Less (λ i. do s ← consume Identifier expectedVariableName; node (varRow (s .node))) nothing
 
--- a class behind its methods
+-- the rest of a class, after its methods
 abbrev pub endClass : ℕ → ℕ → ℕ → ℕ → Prog
 endClass name sup methods statics = do
   consume RightCurlyBrace expectedRightCurly
@@ -45,31 +45,31 @@ empty = do
   n ← node emptyRow
   give (record { node = n .node; form = Empty; access = 0 })
 
--- a grouping behind its expression
+-- the rest of a grouping, after its expression
 abbrev pub grouping : ℕ → Prog
 grouping e = do
   consume RightParen expectParenAfterExpression
   node (groupingRow e)
 
--- a list behind its elements
+-- the rest of a list, after its elements
 abbrev pub listEnd : Found → Prog
 listEnd elements = do
   brace ← require RightBrace expectedEndOfList
   node (listRow (elements .node) (brace .node))
 
--- a dictionary behind its elements
+-- the rest of a dictionary, after its elements
 abbrev pub dictionaryEnd : Found → Prog
 dictionaryEnd elements = do
   brace ← require RightCurlyBrace expectedEndOfDict
   node (dictionaryRow (elements .node) (brace .node))
 
--- a call behind its arguments
+-- the rest of a call, after its arguments
 abbrev pub callEnd : ℕ → Found → Prog
 callEnd callee args = do
   paren ← require RightParen expectParenAfterArguments
   node (callRow callee (paren .node) (args .node))
 
--- a property behind its dot
+-- a property, after its dot
 abbrev pub get : ℕ → Prog
 get object = do
   name ← require Identifier expectedPropertyName
@@ -107,7 +107,7 @@ module _ (T : View) where
     stmts ← functionBody T
     node (row kind name 0 0 (params .node) (stmts .node) 0 0)
 
-  -- a classic for behind its initializer
+  -- the rest of a classic for, after its initializer
   abbrev pub classic : ℕ → ℕ → Prog
   classic keyword init = do
     cond ← expression

@@ -1,4 +1,4 @@
-// The parts of the readers that call no reader: rows, endings, lists of names. Operators stand above, in `operators`, and the readers that call each other in `grammar`.
+// The parts of the readers that call no reader: rows, endings, lists of names. The crates `operators` and `grammar`, which use this one, have the operators and the readers that call each other.
 ghost use mathlib.Core.Path.{_≡_};
 ghost use mathlib.Core.List.{List};
 ghost use Prim.Native.Nat.{ℕ, _-_};
@@ -170,7 +170,7 @@ pub fn parameters(
     }
 }
 
-// `expression_stmt`, behind its expression.
+// `expression_stmt`, after its expression.
 pub fn expression_stmt(nodes: &mut [u32], expression: Out) -> Out
     ensures { λ r. ⌜ ((E : List ℕ) → reply (r .p) (r .got) E (now (nodes .exit)) ≡ andThen (reply (expression .p) (expression .got) E (now (nodes .entry))) λ e q E N. pushNode (rows.exprRow (lastOf (e .form) (q .current)) (e .node)) q E N) ⌝ }
 {
@@ -185,7 +185,7 @@ pub fn expression_stmt(nodes: &mut [u32], expression: Out) -> Out
     parser::make(nodes, q, row(Node::EXPR, last, 0, 0, e.node, 0, 0, 0))
 }
 
-// The node of a function, behind what its body gave.
+// The node of a function, after what its body gave.
 pub fn fn_node(nodes: &mut [u32], body: Out, kind: u32, name: u32, params: u32) -> Out
     ensures { λ r. ⌜ ((E : List ℕ) → reply (r .p) (r .got) E (now (nodes .exit)) ≡ andThen (reply (body .p) (body .got) E (now (nodes .entry))) λ stmts q E N. pushNode (rows.row kind name 0 0 params (stmts .node) 0 0) q E N) ⌝ }
 {
@@ -286,7 +286,7 @@ pub fn names(tokens: &[u32], nodes: &mut [u32], index: &[u32], p: State) -> Out
     }
 }
 
-// The node of an if, behind the statements of its else, which were read as a block. The Rust stays on the brace behind them and asks for it again: one look more.
+// The node of an if, after the statements of its else, which were read as a block. The Rust stays on the brace after them and asks for it again: one look more.
 pub fn if_node(
     nodes: &mut [u32],
     others: Out,
@@ -309,7 +309,7 @@ pub fn if_node(
     )
 }
 
-// The node of an enhanced for, behind its body; the loop count is given back where the rule says so.
+// The node of an enhanced for, after its body; the loop count is given back where the rule says so.
 pub fn for_node(nodes: &mut [u32], body: Out, keyword: u32, ids: u32, collection: u32) -> Out
     ensures { λ r. ⌜ ((E : List ℕ) → reply (r .p) (r .got) E (now (nodes .exit)) ≡ andThen (reply (body .p) (body .got) E (now (nodes .entry))) λ stmt q E N. pushNode (rows.enhancedForRow keyword ids collection (stmt .node)) (looped q (loopsBehind (q .rule) (q .loops))) E N) ⌝ }
 {
@@ -364,7 +364,7 @@ pub fn before(token: u32) -> u32
     if token == 0 { 0 } else { token - 1 }
 }
 
-// `list`, behind its elements.
+// `list`, after its elements.
 pub fn list(
     tokens: &[u32],
     errors: &mut [u32],
@@ -388,7 +388,7 @@ pub fn list(
     parser::make(nodes, q, row(Node::LIST, t.node, 0, 0, e.node, 0, 0, 0))
 }
 
-// `dictionary`, behind its elements.
+// `dictionary`, after its elements.
 pub fn dictionary(
     tokens: &[u32],
     errors: &mut [u32],
@@ -453,7 +453,7 @@ pub fn close_access(
     gives_form(q, n.node, form_through(f), n.node)
 }
 
-// The last part of a slice, behind its expression.
+// The last part of a slice, after its expression.
 pub fn step(
     tokens: &[u32],
     errors: &mut [u32],
@@ -523,7 +523,7 @@ pub fn super_expr(
     parser::make(nodes, q, row(Node::SUPER, keyword, m.node, 0, 0, 0, 0, 0))
 }
 
-// A grouping, behind its expression.
+// A grouping, after its expression.
 pub fn grouping(
     tokens: &[u32],
     errors: &mut [u32],
@@ -605,7 +605,7 @@ pub fn suffix_place(kind: u32) -> u32
     }
 }
 
-// `finish_call`, behind its arguments.
+// `finish_call`, after its arguments.
 pub fn finish_call(
     tokens: &[u32],
     errors: &mut [u32],
@@ -634,7 +634,7 @@ pub fn finish_call(
     )
 }
 
-// A property, behind its dot.
+// A property, after its dot.
 pub fn get(
     tokens: &[u32],
     errors: &mut [u32],

@@ -346,7 +346,7 @@ module _ (T : View) where
   many-fed (zero ∷ ks) found missing b g h = (g, many-fed ks found missing b g h)
   many-fed (suc k ∷ ks) found missing b g h = (λ i c c<. g i c (omega arith), many-fed ks found missing b g h)
 
-  -- the operand behind an operator passes a token
+  -- the operand after an operator passes a token
   binary-from-fed : (level : Level) (P : Prog) → moves P ≡ true → ((b : ℕ) → b ≤ count (T .tokens) → Fed b P) → (f : ℕ) (left : Found) (b : ℕ) → b ≤ count (T .tokens) → b < f → Fed b (binaryFrom T level P f left)
   unfolding binaryFrom
   binary-from-fed level P e g zero left b h l = absurd (omega arith)

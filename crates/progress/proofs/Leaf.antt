@@ -39,7 +39,7 @@ unfolding seenIf
 seen-at true j i e = (refl, At-inj j i e)
 seen-at false j i e = Nothing-not i e
 
--- the token found is at or behind where the search began, and has the kind
+-- the token found is at or after where the search began, and has the kind
 pub check-at : (T : View) (at k i : ℕ) → checkAt T at k ≡ At i → (at ≤ i) × (kindAt (T .tokens) i ≡ k)
 unfolding checkAt
 check-at T at k i = go (eqb k 1) refl
@@ -69,7 +69,7 @@ matches-on T at k i = go (checkAt T at k) refl
         omega arith
     go Nothing t e = Nothing-not i e
 
--- a token that is passed, and is no EOF, is one of the tokens, and the reading is behind it
+-- a token that is passed, and is no EOF, is one of the tokens, and the reading is after it
 pub matches-at : (T : View) (at k i : ℕ) → matchesAt T at (suc k) ≡ At i → (at < i) × (at < count (T .tokens))
 unfolding matchesAt
 matches-at T at k i = go (checkAt T at (suc k)) refl

@@ -62,7 +62,7 @@ pub past-consume : (z a : ℕ) (c : Type 0) (T : View) (kind m : ℕ) (p : State
 unfolding consumeAt
 past-consume z a c T kind m p E N y h g = past-seen _ _ _ _ _ _ (λ i e. let u = matches-on T (p .current) kind i e in record { past = (omega arith, g) }) (past-error _ _ _ _ _ _ _ _ _ y h g)
 
--- an unwrapped `consume` gives a node only behind its token
+-- an unwrapped `consume` gives a node only after its token
 past-require : (z a : ℕ) (c : Type 0) (T : View) (kind m : ℕ) (p : State) (E N : List ℕ) → z ≤ p .current → ((i : ℕ) → matchesAt T (p .current) kind ≡ At i → (a ≤ i) × c) → Past z a c (requireAt T kind m p E N)
 unfolding requireAt
 past-require z a c T kind m p E N y h = past-seen _ _ _ _ _ _ (λ i e. record { past = h i e }) (past-then z a c (p .current) (Unit {0}) _ _ (past-error z _ _ (T .tokens) m (p .current) (looked p 1) E N y (omega arith) tt) λ f q E N b x. record { past = omega arith })
@@ -124,7 +124,7 @@ module _ (T : View) (low : Which → Reader) (h : (w : Which) → MovesOn T (low
   stays (inFunction name m) z a c p E N y b x = past-restored z a c p _ (stays m z a c (looped p 0) E N y b x)
   stays (down w) z a c p E N y b x = past-less _ _ _ _ _ _ _ (h w p E N) y (omega arith) λ d. x
 
-  -- a program that passes the test gives a node only behind a token
+  -- a program that passes the test gives a node only after a token
   pub moves-on : (P : Prog) → moves P ≡ true → MovesOn T (run T low P)
   unfolding run moves
   moves-on (give f) e p E N = never e
@@ -172,7 +172,7 @@ unfolding lower
 lower-moves T zero w p E N = record { past = omega arith }
 lower-moves T (suc l) w p E N = moves-on T (lower T l) (lower-moves T l) (body T w) (body-moves T w) p E N
 
--- a reading that gives a node, at any level and over any tables, began at a token, and is behind it
+-- a reading that gives a node, at any level and over any tables, began at a token, and is after it
 pub reading-moves : (T : View) (l : ℕ) (w : Which) (p q : State) (f : Found) (E N E′ N′ : List ℕ) → lower T l w p E N ≡ reply q (Node f) E′ N′ → (p .current < count (T .tokens)) × (p .current < q .current)
 reading-moves T l w p q f E N E′ N′ e = let h = subst (λ (r : Reply). Past (p .current) (suc (p .current)) (p .current < count (T .tokens)) r) e (lower-moves T l w p E N) in (h .past .1, h .past .0)
 

@@ -1,4 +1,4 @@
--- The kinds of nodes, for definitions to cite: the `Expr` enum in its order, the `Stmt` enum in its order, and two that the Rust has no enum for.
+-- The kinds of nodes (docs/RULES.md, 'Nodes'), for definitions to cite: the `Expr` enum in its order, the `Stmt` enum in its order, and two that the Rust has no enum for.
 use Prim.Native.Nat.{ℕ}
 
 -- `Expr::Fn`

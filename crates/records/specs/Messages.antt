@@ -1,4 +1,4 @@
--- The messages by name, each beside the original's text: first the lexer's in the order of lexer.rs, then the parser's where each first stands in parser.rs; the tenth counts where `fn_stmt` has it.
+-- The messages by name (docs/RULES.md, 'Messages'), each beside the original's text: first the lexer's in the order of lexer.rs, then the parser's where each first stands in parser.rs; the tenth counts where `fn_stmt` has it.
 use Prim.Native.Nat.{ℕ}
 
 -- '!' cannot be used here

@@ -1,4 +1,4 @@
--- The outcomes of document 01 by name.
+-- The outcomes of docs/RULES.md, 'Outcomes', by name.
 use Prim.Native.Nat.{ℕ}
 
 -- parsing reached EOF, errors or none

@@ -1,4 +1,4 @@
--- The words of a record, in the order in which they stand in the table.
+-- The words of a record, in the order in which they stand in the table (docs/RULES.md, 'Records').
 use Prim.Native.Nat.{ℕ}
 use mathlib.Core.List.{List, [], _∷_}
 use Rattle.records.specs.declared.TokenData.{TokenData}

@@ -13,7 +13,7 @@ pub const NODE_WIDTH: usize = 9;
 
 pub const INDEX_WIDTH: usize = 1;
 
-// The words of a token: sort says what value it has, low and high hold it; begins is the line counter when its first byte was met, line the counter behind its last.
+// The words of a token: sort says what value it has, low and high hold it; begins is the line counter when its first byte was met, line the counter after its last.
 pub struct TokenData {
     pub kind: u32,
     pub start: u32,
@@ -112,7 +112,7 @@ impl Node {
     pub const NAME: u32 = 32;
 }
 
-// The outcomes of document 01, named here once: the numbers of specs/Outcomes.antt.
+// The outcomes of docs/RULES.md, 'Outcomes', named here once: the numbers of specs/Outcomes.antt.
 pub struct Outcome {
     pub number: u32,
 }

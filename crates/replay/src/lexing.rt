@@ -62,7 +62,7 @@ fn with_tables(
     print::unknown();
 }
 
-// The answer, the kept tokens, the kept errors, and how many words behind them have changed.
+// The answer, the kept tokens, the kept errors, and how many words after them have changed.
 fn scan(rule: u32, source: &[u8], tokens: &mut [u32], errors: &mut [u32]) {
     let r = lexer::scan(rule, source, tokens, errors);
     head(r.outcome, r.tokens, r.errors);
@@ -78,7 +78,7 @@ fn head(outcome: u32, tokens: u32, errors: u32) {
     print::word(errors);
 }
 
-// How many words have changed behind so many tokens and errors.
+// How many words have changed after so many tokens and errors.
 fn behind(tokens: &[u32], n: u32, errors: &[u32], m: u32) {
     let t = changed(tokens, records::TOKEN_WIDTH * (n as usize));
     let e = changed(errors, records::ERROR_WIDTH * (m as usize));

@@ -1,5 +1,5 @@
-// Runs the leaf crates and the lexer on test vectors: a line of standard input is a vector, and a line of standard output its answer. What is
-// right stands in the file `stdout`, which the Rust crate `vectors` makes; here it is proved only that nothing goes wrong on any input.
+// Runs the leaf crates and the lexer on test vectors: a line of standard input is a vector, and a line of standard output its answer. The file
+// `stdout`, which the Rust crate `vectors` makes, has the right answers. Here it is proved only that nothing goes wrong on any input.
 mod bytes;
 mod fields;
 mod lexing;

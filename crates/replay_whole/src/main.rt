@@ -1,5 +1,5 @@
-// Runs the whole reading on stored scripts and prints the answer and every word of the tables afterwards. What is right stands in the file
-// `stdout`, which the Rust crate `vectors` makes from the original's answers; here it is proved only that nothing goes wrong on any input.
+// Runs the whole reading on stored scripts and prints the answer and every word of the tables afterwards. The file `stdout`, which the Rust
+// crate `vectors` makes from the original's answers, has what is right. Here it is proved only that nothing goes wrong on any input.
 ghost use mathlib.Core.Path.{_≡_};
 ghost use Prim.Native.Nat.{_≤_};
 ghost use lib.ListN.{length};

@@ -149,7 +149,7 @@ module _ (x : Counted) (T : View) (R u b D : ℕ) (kind m : ℕ) (p : State) (E 
       (λ i e. let s = allowed-match x T (p .current) kind i e in record { owed = (omega arith, r) })
       (owed-error T R u b D x m (p .current) _ E N r h g)
 
-  -- an unwrapped `consume` gives a node only behind its token
+  -- an unwrapped `consume` gives a node only after its token
   owed-require : counted x p + u ≤ allowed x (T .tokens) (p .current) + allows x kind + b → counted x p + perError x + u ≤ allowed x (T .tokens) (p .current) + D → Owed x T R u b D (requireAt T kind m p E N)
   unfolding requireAt
   owed-require h g =

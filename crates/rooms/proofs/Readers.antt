@@ -32,7 +32,7 @@ abbrev deep : List Level → ℕ
 deep [] = 0
 deep (l ∷ ls) = deep ls + 1
 
--- ---- the readers. No debt is below 0, so where a token that is passed is to pay for a node behind it, the debt before is held at 1 at the least: `a - 1 + 1` is a, but 1 for 0
+-- ---- the readers. No debt is below 0, so where a token that is passed is to pay for a node after it, the debt before is held at 1 at the least: `a - 1 + 1` is a, but 1 for 0
 -- a node is counted, or an error
 pub one-counts : (x : Counted) → perNode x + perError x ≡ 1
 one-counts nodes = refl

@@ -23,7 +23,7 @@ perNode x = pick x 1 0
 abbrev pub perError : Counted → ℕ
 perError x = pick x 0 1
 
--- what a token of that kind allows: two, and the keyword `class` two errors more, for its name, both its braces and the new line behind them can be missing; EOF, which is never passed, nothing
+-- what a token of that kind allows: two, and the keyword `class` two errors more, for its name, both its braces and the new line after them can be missing; EOF, which is never passed, nothing
 abbrev pub allows : Counted → ℕ → ℕ
 allows x zero = 0
 allows x (suc k) = cond (eqb (suc k) Class) (2 + 2 * perError x) 2

@@ -1,4 +1,4 @@
--- What holds by every rule, and what by rule one and two. Assumes nothing.
+-- What holds by every rule, what by rule one, and what by rule two. Assumes nothing.
 use mathlib.Core.Path.{_≡_, refl}
 use mathlib.Core.Bool.{Bool, true, false, cond}
 use Prim.Native.Nat.{ℕ, _-_, _≤_}
@@ -23,7 +23,7 @@ newline-ends rule = at (isTwo rule)
     at true = refl
     at false = refl
 
--- ---- rule one is document 01: names of letters and _, a loop count that stays, and a stop at a number that is cut
+-- ---- rule one is the original's: names of letters and _, a loop count that stays, and a stop at a number that is cut
 pub one-names : (b : ℕ) → isNamed one b ≡ isAlpha b
 one-names b = refl
 

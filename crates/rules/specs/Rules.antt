@@ -1,4 +1,4 @@
--- The two rules of a reading. Rule one is document 01. Rule two is rule one but for what stands on this page.
+-- The two rules of a reading (docs/RULES.md, 'Lexing'). Rule one reads as the original does. Rule two is rule one but for what stands on this page.
 use Prim.Native.Nat.{ℕ, _-_}
 use mathlib.Core.Bool.{Bool, cond, not, _&&_, _||_}
 use lib.Dec.{eqb}
@@ -6,11 +6,11 @@ use Rattle.spans.specs.declared.Class.{Class}
 use Rattle.spans.specs.declared.Class.the-variants.{Name, Word}
 use Rattle.spans.specs.Span.{inClass}
 
--- document 01
+-- rule one, the original's
 abbrev pub one : ℕ
 one = 1
 
--- our own
+-- rule two, our own
 abbrev pub two : ℕ
 two = 2
 
@@ -18,12 +18,12 @@ two = 2
 abbrev pub known : ℕ → Bool
 known rule = eqb rule one || eqb rule two
 
--- all that is asked of a rule that is known
+-- whether it is rule two. Nothing else is asked of a rule that is known
 abbrev pub isTwo : ℕ → Bool
 isTwo rule = eqb rule two
 
--- ---- "names may have digits after the first letter or underscore"
--- what a name is made of behind its first byte
+-- ---- by rule two names may have digits after the first letter or underscore
+-- what a name is made of after its first byte
 abbrev pub nameClass : ℕ → Class
 nameClass rule = cond (isTwo rule) Word Name
 
@@ -31,12 +31,12 @@ nameClass rule = cond (isTwo rule) Word Name
 abbrev pub isNamed : ℕ → ℕ → Bool
 isNamed rule b = inClass (nameClass rule) b
 
--- ---- "an enhanced for gives its loop count back"
--- how many loops are open behind an enhanced for in whose body n are
+-- ---- by rule two an enhanced for gives its loop count back
+-- how many loops are open after an enhanced for in whose body n are
 abbrev pub loopsBehind : ℕ → ℕ → ℕ
 loopsBehind rule n = cond (isTwo rule) (n - 1) n
 
--- ---- "a number with a point may end the script"
+-- ---- by rule two a number with a point may end the script
 -- whether lexing stops at a number; `cut` says that it has a point and runs to the last byte
 abbrev pub stopsAt : ℕ → Bool → Bool
 stopsAt rule cut = not (isTwo rule) && cut

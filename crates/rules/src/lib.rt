@@ -12,10 +12,10 @@ pub struct Rule {
 }
 
 impl Rule {
-    // Document 01.
+    // The original's.
     pub const ONE: u32 = 1;
 
-    // Our own: document 01 but for three places.
+    // Our own: the original's but for three places.
     pub const TWO: u32 = 2;
 }
 
@@ -26,7 +26,7 @@ pub fn is_known(rule: u32) -> bool
     (rule == Rule::ONE) | (rule == Rule::TWO)
 }
 
-// Where the name ends whose bytes behind the first start at i; i itself past the end of s.
+// Where a name ends whose bytes after the first start at i; i itself past the end of s.
 pub fn name_end(rule: u32, s: &[u8], i: usize) -> usize
     ensures { λ r. ⌜ r ≡ i + run (isNamed rule) (drop i (now (s .entry))) ⌝ }
 {

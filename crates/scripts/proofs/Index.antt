@@ -1,5 +1,5 @@
 -- Made by `cargo run --release -p vectors -- all`
--- Newline indices that are too short, which the original doesn't have, with what document 01 says; and some that are just long enough.
+-- Newline indices that are too short, which the original doesn't have, with what docs/RULES.md says; and some that are just long enough.
 use Prim.Native.Nat.{ℕ}
 use mathlib.Core.Path.{_≡_, refl}
 use mathlib.Core.List.{List, [], _∷_}

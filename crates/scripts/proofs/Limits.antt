@@ -1,5 +1,5 @@
 -- Made by `cargo run --release -p vectors -- all`
--- The most levels that are read, with what the original answers; and one more, where document 01 says outcome 8.
+-- The most levels that are read, with what the original answers; and one more, where docs/RULES.md says outcome 8.
 use Prim.Native.Nat.{ℕ}
 use mathlib.Core.Path.{_≡_, refl}
 use mathlib.Core.List.{List, [], _∷_}

@@ -1,5 +1,5 @@
 -- Made by `cargo run --release -p vectors -- all`
--- Each message, newlines and assignments, with what the original answers; and small tables, which it doesn't have, with what document 01 says.
+-- Each message, newlines and assignments, with what the original answers; and small tables, which it doesn't have, with what docs/RULES.md says.
 use Prim.Native.Nat.{ℕ}
 use mathlib.Core.Path.{_≡_, refl}
 use mathlib.Core.List.{List, [], _∷_}

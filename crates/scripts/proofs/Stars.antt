@@ -1,5 +1,5 @@
 -- Made by `cargo run --release -p vectors -- all`
--- The scripts that document 01 marks *, with what the original answers.
+-- The scripts that docs/RULES.md, 'Parsing', marks *, with what the original answers.
 use Prim.Native.Nat.{ℕ}
 use mathlib.Core.Path.{_≡_, refl}
 use mathlib.Core.List.{List, [], _∷_}

@@ -1,4 +1,4 @@
--- Rules 2, 3 and 4 of document 01: the bytes of names, numbers and comments, and how far a run of them reaches.
+-- Rules 2, 3 and 4 of docs/RULES.md, 'Lexing': the bytes of names, numbers and comments, and how far a run of them reaches.
 use Prim.Native.Nat.{ℕ, suc}
 use mathlib.Core.Bool.{Bool, true, false, not, _&&_, _||_}
 use mathlib.Core.List.{List, [], _∷_}

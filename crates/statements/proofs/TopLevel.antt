@@ -34,11 +34,11 @@ module _ (T : View) (f first last : ℕ) (p : State) (E N : List ℕ) where
     pub stops : (o : ℕ) → g ≡ Stop o → statements (suc f) T first last p E N ≡ ends o first (p .nodes) q E′ N′
     stops o s = went ∙ ap (λ (g : Got). orEnds first (p .nodes) (reply q g E′ N′) λ n q E N. statements f T (firstOf first n) n q E (linked N last n)) s
 
-    -- it is linked behind the last one, and the next is read
+    -- it is linked after the last one, and the next is read
     pub goes-on : (n : Found) → g ≡ Node n → statements (suc f) T first last p E N ≡ statements f T (firstOf first (n .node)) (n .node) q E′ (linked N′ last (n .node))
     goes-on n s = went ∙ ap (λ (g : Got). orEnds first (p .nodes) (reply q g E′ N′) λ n q E N. statements f T (firstOf first n) n q E (linked N last n)) s
 
-    -- a statement begins at a token and ends behind it
+    -- a statement begins at a token and ends after it
     pub statement-past : (n : Found) → g ≡ Node n → (p .current < count (T .tokens)) × (p .current < q .current)
     statement-past n s = let a = subst (λ (r : Reply). Past (p .current) (suc (p .current)) (p .current < count (T .tokens)) r) (sym e ∙ ap (λ (g : Got). reply q g E′ N′) s) (top-moves T p E N) in (a .past .1, a .past .0)
 

@@ -60,7 +60,7 @@ module _ (T : List ℕ) (p : Parser) (E N X : List ℕ) (k : ℕ) (is : k ≡ ki
     pub one-stops : (o : ℕ) → g ≡ Stop o → (m : Parser) → m ≡ stoppedAt p q → final o m T E′ N′ X ≡ oneOf T p E N X
     one-stops o s m h = ap (λ (m : Parser). final o m T E′ N′ X) h ∙ sym (one-came ∙ ap (λ (g : Got). afterOne T X p (reply q g E′ N′)) s)
 
-    -- it is linked behind the last one
+    -- it is linked after the last one
     pub one-linked : (n : Found) → g ≡ Node n → (m : Parser) → m ≡ behind p q (n .node) → (N″ : List ℕ) → N″ ≡ linked N′ (p .last) (n .node) → restOf T m E′ N″ X ≡ oneOf T p E N X
     one-linked n s m h N″ l = (λ i. restOf T (h i) E′ (l i) X) ∙ sym (one-came ∙ ap (λ (g : Got). afterOne T X p (reply q g E′ N′)) s)
 
@@ -70,12 +70,12 @@ module _ (s t e n x : List ℕ) (p : Parser) where
   abbrev ruled : Bool → Called
   ruled b = pickCall b (λ _. begunAfter p (entered (p .rule) (p .way) s t e n x)) λ _. left (refusedAs 13 p) t e n x
 
-  -- 13
+  -- the rule is not known: 13
   pub begun-refuses : known (p .rule) ≡ false → (m : Stepped) → m ≡ refusedAs 13 p → left m t e n x ≡ begun s t e n x p
   unfolding begun
   begun-refuses k m h = (λ i. left (h i) t e n x) ∙ ap ruled (sym k)
 
-  -- the source is lexed
+  -- the rule is known: the source is lexed
   pub begun-known : known (p .rule) ≡ true → begunAfter p (entered (p .rule) (p .way) s t e n x) ≡ begun s t e n x p
   unfolding begun
   begun-known k = ap ruled (sym k)
@@ -104,7 +104,7 @@ module _ (T E N X : List ℕ) (p : Parser) where
   abbrev by : Bool → Called
   by b = pickCall b (λ _. pickCall (fitsIn T E N X p) (λ _. ruledOf T E N X p) λ _. left (refusedAs 18 p) T E N X) λ _. left (leaving p) T E N X
 
-  -- whether the parser goes with the tables
+  -- whether the parser fits the tables
   abbrev fitting : Bool → Called
   fitting b = pickCall b (λ _. ruledOf T E N X p) λ _. left (refusedAs 18 p) T E N X
 
@@ -122,14 +122,14 @@ module _ (T E N X : List ℕ) (p : Parser) where
     unfolding nextOf
     next-tests = ap by (sym (eq-eqb (p .ended) 0 z))
 
-    -- 18
+    -- the parser does not fit the tables: 18
     pub next-refuses : fitsIn T E N X p ≡ false → (m : Stepped) → m ≡ refusedAs 18 p → left m T E N X ≡ nextOf T E N X p
     next-refuses h m is = (λ i. left (is i) T E N X) ∙ ap fitting (sym h) ∙ next-tests
 
-    -- 13
+    -- it fits them, but its rule is not known: 13
     pub next-unruled : fitsIn T E N X p ≡ true → known (p .rule) ≡ false → (m : Stepped) → m ≡ refusedAs 13 p → left m T E N X ≡ nextOf T E N X p
     next-unruled h k m is = (λ i. left (is i) T E N X) ∙ ap ruling (sym k) ∙ ap fitting (sym h) ∙ next-tests
 
-    -- one statement
+    -- it fits them, and its rule is known: one statement
     pub next-goes-on : fitsIn T E N X p ≡ true → known (p .rule) ≡ true → oneOf T p E N X ≡ nextOf T E N X p
     next-goes-on h k = ap ruling (sym k) ∙ ap fitting (sym h) ∙ next-tests

@@ -1,4 +1,4 @@
--- One statement at a time, over a parser that the host keeps and lends: what `begin` and `read` give for any parser, any source, any tables and any index.
+-- One statement at a time (docs/RULES.md, 'One statement at a time'), over a parser that the host keeps and lends: what `begin` and `read` give for any parser, any source, any tables and any index.
 use Prim.Native.Nat.{ℕ, zero, suc}
 use mathlib.Core.Bool.{Bool, true, false}
 use mathlib.Core.List.{List}
@@ -66,12 +66,12 @@ begunBy b p d =
 abbrev pub begunAfter : Parser → Entered → Called
 begunAfter p d = begunBy (eqb (d .outcome) outcomes.ended) p d
 
--- `begin`, of any source into tables t, e and n with the index x, by the parser's rule and on its way: what else the parser was does not matter; 13 where the rule is none
+-- `begin`, of any source into tables t, e and n with the index x, by the parser's rule and on its way: nothing else of the parser matters; 13 where the rule is none
 unfoldable pub begun : List ℕ → List ℕ → List ℕ → List ℕ → List ℕ → Parser → Called
 begun s t e n x p = pickCall (known (p .rule)) (λ _. begunAfter p (entered (p .rule) (p .way) s t e n x)) λ _. left (refusedAs outcomes.wrongRule p) t e n x
 
 -- ---- read
--- by what came of a statement: it is linked behind the last one; or it stopped the reading
+-- what a read gives by what came of a statement: it is linked after the last one; or it stopped the reading
 abbrev pub afterOne : List ℕ → List ℕ → Parser → Reply → Called
 afterOne T X p (reply q (Node f) E N) = restOf T (behind p q (f .node)) E (linked N (p .last) (f .node)) X
 afterOne T X p (reply q (Stop o) E N) = final o (stoppedAt p q) T E N X
@@ -80,7 +80,7 @@ afterOne T X p (reply q (Stop o) E N) = final o (stoppedAt p q) T E N X
 unfoldable pub oneOf : List ℕ → Parser → List ℕ → List ℕ → List ℕ → Called
 oneOf T p E N X = pickCall (eqb (kindAt T (p .current)) EOF) (λ _. final outcomes.ended p T E N X) λ _. afterOne T X p (topLevel (indexed T X) (stateOf p) E N)
 
--- where the parser goes with the tables: 13 where its rule is none, else one statement
+-- where the parser fits the tables: 13 where its rule is none, else one statement
 abbrev pub ruledOf : List ℕ → List ℕ → List ℕ → List ℕ → Parser → Called
 ruledOf T E N X p = pickCall (known (p .rule)) (λ _. oneOf T p E N X) λ _. left (refusedAs outcomes.wrongRule p) T E N X
 
@@ -96,7 +96,7 @@ nextOf T E N X p =
 abbrev pub next : Called → Called
 next c = nextOf (c .tokens) (c .errors) (c .nodes) (c .index) (c .stepped .parser)
 
--- so many reads
+-- so many such reads, one after the other
 unfoldable pub nexts : ℕ → Called → Called
 nexts zero c = c
 nexts (suc k) c = next (nexts k c)

@@ -1,4 +1,4 @@
--- Strings: rule 5, from the byte after the opening quote, and the bytes that a string stands for.
+-- Strings (docs/RULES.md, 'Strings'): lexing's rule 5, from the byte after the opening quote, and the bytes that a string stands for.
 use Prim.Native.Nat.{ℕ, _+_, _≤_}
 use mathlib.Core.Path.{_≡_}
 use mathlib.Core.Bool.{Bool, true, false, not, cond}

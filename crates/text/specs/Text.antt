@@ -1,4 +1,4 @@
--- The text test: what the Unicode Standard's table of well-formed UTF-8 byte sequences (Table 3-7) lets in.
+-- The text test (docs/RULES.md, 'Text'): what the Unicode Standard's table of well-formed UTF-8 byte sequences (Table 3-7) lets in.
 use Prim.Native.Nat.{ℕ}
 use mathlib.Core.Bool.{Bool, true, false, cond, _&&_, _||_}
 use mathlib.Core.List.{List, [], _∷_}

@@ -1,4 +1,4 @@
-// The text test: bytes pass that are well-formed by the Unicode Standard's table, which is what Rust accepts as a String.
+// The text test: bytes pass if they are well-formed by the Unicode Standard's table, which is what Rust accepts as a String.
 ghost use mathlib.Core.Path.{_≡_};
 ghost use mathlib.Core.Bool.{true};
 ghost use mathlib.Core.List.{[]};

@@ -1,4 +1,4 @@
--- Rule 3 of document 01: names among the 22 in `keywords` take that kind, every other name is an Identifier.
+-- Rule 3 of docs/RULES.md, 'Lexing': names among the 22 in `keywords` take that kind, every other name is an Identifier.
 use Prim.Native.Nat.{ℕ, _-_}
 use mathlib.Core.Bool.{Bool, true, false, _&&_, cond}
 use mathlib.Core.List.{List, [], _∷_}

@@ -1,5 +1,5 @@
 -- The 22 keywords on one page, as `keywords` in lib.rt decides: by length first, then by letters, within a length in the order of `table`. The number at
--- a line's end is the word's row there. That the page is the table, and decides as the table does, is proved in `proofs/Page.antt`.
+-- a line's end is the word's row there. `proofs/Page.antt` proves that the page is the table, and decides as the table does.
 use mathlib.Core.Bool.{Bool, true, false, cond}
 use mathlib.Core.List.{List, [], _∷_}
 use Prim.Native.Char.{code}
@@ -90,7 +90,7 @@ sized n [] = []
 sized n (k ∷ ks) = keep (eqb n (length (k .word))) k (sized n ks)
 
 -- ---- what stands in the code for a word
--- n, and after it the letters s, as one number: a byte each, the first the highest
+-- n and then the letters s as one number: a byte each, the first one the highest
 abbrev pub lettersFrom : ℕ → List ℕ → ℕ
 lettersFrom n [] = n
 lettersFrom n (b ∷ s) = lettersFrom (n * 256 + b) s

@@ -1,4 +1,4 @@
--- Lists while they are read: a new member is linked behind the last one. And what readers hold, kept over later readings.
+-- Lists while they are read: a new member is linked after the last one. And what readers hold, kept over later readings.
 use mathlib.Core.Path.{_≡_, refl, sym, ap, _∙_, subst}
 use mathlib.Core.List.{List}
 use mathlib.Core.Bool.{true, _&&_}
@@ -70,7 +70,7 @@ pub held-as : {T N : List ℕ} {b u : ℕ} {f : Found} (s s′ : Sort) (l l′ :
 held-as s s′ l l′ g w h = let t = h .tight in record { root = h .root; child = record { above = h .child .above; below = h .child .below; kind = w _ (h .child .kind); alone = h .child .alone }; tight = omega arith; form = h .form; access = h .access }
 
 -- ---- lists
--- an open list: its last member's next is 0, and no row behind the last member refers to it
+-- an open list: its last member's next is 0, and no row after the last member refers to it
 pub record Opened (T : List ℕ) (s : Sort) (b first last u : ℕ) (N : List ℕ) : Type 0 where
   pub above : b < first
   pub chain : Chain N s first last

@@ -1,4 +1,4 @@
--- Well-formed rows stay so while other rows are written: by a reading that starts behind them, by a new row, by a link.
+-- Well-formed rows stay so while other rows are written: by a reading that starts after them, by a new row, by a link.
 use mathlib.Core.Path.{_≡_, refl, sym, ap, _∙_, subst}
 use mathlib.Core.List.{List}
 use mathlib.Core.Bool.{Bool, true, false, _||_, false≢true}
@@ -113,7 +113,7 @@ later-then a b =
     let y = b .up in
     record { up = omega arith; same = λ i k l h c. b .same i k l (omega arith) c ∙ a .same i k l h c }
 
--- a row d is put behind the u rows of N
+-- a row d is put after the u rows of N
 pub record Made (u : ℕ) (N : List ℕ) (d : rows.Node) (N′ : List ℕ) : Type 0 where
   pub later : Later u N (u + 1) N′
   pub row : rowAt N′ u ≡ d
@@ -159,7 +159,7 @@ module _ (T : List ℕ) where
       nexts j p q (inl o) = rw (m .later .same j 8 (omega arith) o (omega arith)) (⊎-elim (λ z. inl z) (λ z. let z1 = z .0 in let z2 = z .1 in inr (omega arith, omega arith)) (x .nexts j p o))
       nexts j p q (inr o) = let e : j ≡ u = omega arith in inl (ap (λ (i : ℕ). field nodeWidth 8 N′ i) e ∙ m .next)
 
-  -- prev may be linked to n: it stands below n, and no row behind it refers to it
+  -- prev may be linked to n: it stands below n, and no row after it refers to it
   pub record Behind (b u : ℕ) (N : List ℕ) (prev n : ℕ) : Type 0 where
     pub above : b < prev
     pub below : prev < n

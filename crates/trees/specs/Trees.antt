@@ -1,4 +1,4 @@
--- What a well-formed node table is: which tokens and children each kind of node has, and where they stand.
+-- What a well-formed node table is (docs/RULES.md, 'Nodes'): which tokens and children each kind of node has, and where they stand.
 use Prim.Native.Nat.{ℕ, zero, suc, _+_, _-_, _≤_, _<_}
 use mathlib.Core.Path.{_≡_}
 use mathlib.Core.Bool.{Bool, true, false, cond, _&&_, _||_}
@@ -133,7 +133,7 @@ allows kind column child = permits (columnOf (shapeOf kind) column) child
 abbrev pub kindOf : List ℕ → ℕ → ℕ
 kindOf N n = field nodeWidth 0 N (n - 1)
 
--- its next
+-- the next of the node that reference n names
 abbrev pub nextOf : List ℕ → ℕ → ℕ
 nextOf N n = field nodeWidth 8 N (n - 1)
 
@@ -202,7 +202,7 @@ isOperation k = eqb k BinaryExpr || eqb k LogicalExpr
 abbrev pub tightness : List ℕ → rows.Node → ℕ
 tightness T r = cond (isOperation (r .kind)) (binding (kindAt T (r .token1 - 1))) 8
 
--- and the node that reference n names
+-- how tight the node binds that reference n names
 abbrev pub tightOf : List ℕ → List ℕ → ℕ → ℕ
 tightOf T N n = tightness T (rowAt N (n - 1))
 

@@ -1,4 +1,4 @@
--- Loops are entered behind their keyword, so that the loop count never exceeds the cursor: over any tables, a statement that is read from a state in which it
+-- Loops are entered after their keyword, so that the loop count never exceeds the cursor: over any tables, a statement that is read from a state in which it
 -- does not leaves a state in which it does not.
 -- Assumes nothing.
 use mathlib.Core.Path.{_≡_, refl}
@@ -31,7 +31,7 @@ abbrev passes : ℕ → ℕ
 passes zero = 0
 passes (suc kind) = 1
 
--- a program enters a loop only just behind a token that it passed, where z tokens were passed just before it
+-- a program enters a loop only just after a token that it passed, where z tokens were passed just before it
 abbrev Calm : ℕ → Prog → Type 0
 Calm z (give f) = Unit {0}
 Calm z (stop o) = Unit {0}

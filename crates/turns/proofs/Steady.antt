@@ -92,7 +92,7 @@ top-in T p E N a b = first (lower T 128 Declaration p E N) (lower-reads T 128 De
     first (reply q (Stop o) E N) d = record { kept = tt }
 
 module _ (T E N X : List ℕ) (p : Parser) (fit : Fit T E N X p) (q : state.State) (f : Found) (E′ N′ : List ℕ) (t : reply q (Node f) E′ N′ ≡ topLevel (indexed T X) (stateOf p) E N) where
-  -- the parser behind it fits the tables that it left
+  -- the parser after a statement fits the tables that the statement left
   behind-fit : Fit T E′ (linked N′ (p .last) (f .node)) X (behind p q (f .node))
   behind-fit =
       let end = only-end T (p .tokens) (fit .eof) in
@@ -118,7 +118,7 @@ module _ (T E N X : List ℕ) (p : Parser) (fit : Fit T E N X p) (q : state.Stat
       }
 
 -- ---- calls
--- the final answer was given; or the call answered 19, and left a parser that fits, with b tokens at the most and the cursor at token j or behind it
+-- the final answer was given; or the call answered 19, and left a parser that fits, with b tokens at the most and the cursor at token j or after it
 pub data Steady (b j : ℕ) : Called → Type 0 where
   over : (c : Called) → (c .stepped .parser .ended ≡ 0 → ⊥) → Steady b j c
   going : (p : Parser) (T E N X : List ℕ) → p .ended ≡ 0 → p .outcome ≡ 19 → Fit T E N X p → p .tokens ≤ b → j ≤ p .current → Steady b j (left (leaving p) T E N X)
@@ -129,7 +129,7 @@ one-not h = omega (arith, h)
 marked-fit : (T E N X : List ℕ) (p : Parser) → Fit T E N X p → Fit T E N X (markedAs 0 19 p)
 marked-fit T E N X p f = record { rule = f .rule; tokens = f .tokens; errors = f .errors; nodes = f .nodes; last = f .last; loops = f .loops; cursor = f .cursor; eof = f .eof; index = f .index; within = f .within }
 
--- behind a statement, or before the first
+-- after a statement, or before the first
 pub rest-steady : (b j : ℕ) (T : List ℕ) (p : Parser) (E N X : List ℕ) → Fit T E N X p → p .tokens ≤ b → j ≤ p .current → Steady b j (restOf T p E N X)
 unfolding restOf
 rest-steady b j T p E N X f m l = go (eqb (kindAt T (p .current)) 0)

@@ -62,7 +62,7 @@ module _ (R : Reading) (T : List ℕ) (p : Parser) (E N X : List ℕ) (f : ℕ) 
   at-its-end : eqb (kindAt T (p .current)) 0 ≡ true → Stands R (final 0 p T E N X)
   at-its-end h = ended-as R 0 p T E N X (e ∙ ap (λ (x : Parsed). joined (p .tokens) T x X) (at-end (indexed T X) f (p .first) (p .last) (stateOf p) E N h))
 
-  -- behind a statement, or before the first
+  -- after a statement, or before the first
   rest-by : (b : Bool) → eqb (kindAt T (p .current)) 0 ≡ b → Stands R (restOf T p E N X)
   unfolding restOf
   rest-by true h = subst (λ (b : Bool). Stands R (pickCall b (λ _. final 0 p T E N X) λ _. left (leaving (markedAs 0 19 p)) T E N X)) (sym h) (at-its-end h)

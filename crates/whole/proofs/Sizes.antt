@@ -115,7 +115,7 @@ over-field k ws t t′ n i l e h b =
     field-same tokenWidth k (over ws t) (over ws t′) i (over-long ws t t′ l)
     (List·getD-append ws (drop (length ws) t) 0 (tokenWidth * i + k) (omega arith) ∙ sym (List·getD-append ws (drop (length ws) t′) 0 (tokenWidth * i + k) (omega arith)))
 
--- the words of the token tables behind EOF don't count
+-- the words of the token tables after EOF don't count
 pub over-agree : (ws t t′ : List ℕ) (m : ℕ) → length t ≡ length t′ → length ws ≡ tokenWidth * (m + 1) → getD ws (tokenWidth * m + 0) 0 ≡ 0 → Agree m (walked (over ws t)) (walked (over ws t′))
 unfolding kindAt startAt lineAt
 over-agree ws t t′ m l e z =
@@ -346,7 +346,7 @@ module _ (rule : ℕ) (d : Result) (w : Well d) (t e n x : List ℕ) (tf : lengt
             unchanged = λ u. (ap (λ (ws : List ℕ). over ws t) (w .nothing u .0), ap (λ (ws : List ℕ). over ws e) (w .nothing u .1), after-unread (d .outcome) n u, i);
           }
 
--- a reading leaves the tables' lengths, the words behind the kept tokens and errors, the words of the index behind theirs, and after 3, 4 and 13 every word
+-- a reading leaves the tables' lengths, the words after the kept tokens and errors, the words of the index after theirs, and after 3, 4 and 13 every word
 pub reading-rest : (rule way : ℕ) (s t e n x : List ℕ) → Rest t e n x (reading rule way s t e n x)
 unfolding reading
 reading-rest rule way s t e n x =

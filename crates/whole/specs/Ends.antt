@@ -11,14 +11,14 @@ use Rattle.parsing.specs.Ahead.{isOutcome}
 use Rattle.entry.specs.Ways.{stop}
 use Rattle.entry.specs.Reading.{Reading}
 
--- as lexing ends that did not reach the end; or with 11, which is the new way's; or with 10, for want of room in the index; or as parsing ends
+-- how a reading ends: as lexing ended, where it did not reach the end; or with 11, which is the new way's; or with 10, for want of room in the index; or as parsing ends
 pub data Ends (rule way : ℕ) : ℕ → Type 0 where
   in-lexing : (o : ℕ) → lexings.Ends rule o → (o ≡ ended → ⊥) → Ends rule way o
   before-parsing : known rule ≡ true → way ≡ stop → Ends rule way notParsed
   without-index : known rule ≡ true → Ends rule way noBufferRoom
   in-parsing : (o : ℕ) → known rule ≡ true → isOutcome o ≡ true → Ends rule way o
 
--- the numbers that this comes to: document 01's 0 to 8, 10, 11, and 13
+-- the numbers that this comes to: 0 to 8, 10, 11 and 13
 abbrev pub isFinal : ℕ → Bool
 isFinal o = leb o tooDeep || (eqb o noBufferRoom || (eqb o notParsed || eqb o wrongRule))
 

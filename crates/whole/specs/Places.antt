@@ -22,7 +22,7 @@ pub record OfParsing (n : ℕ) (r : Reading) (k : ℕ) : Type 0 where
   pub about : About (r .tokens) last (r .errors) k
   pub inside : field errorWidth 2 (r .errors) k ≤ n
 
--- one or the other
+-- it is the lexer's or the parser's
 pub data Place (n : ℕ) (r : Reading) (k : ℕ) : Type 0 where
   lexers : OfLexing n r k → Place n r k
   parsers : OfParsing n r k → Place n r k

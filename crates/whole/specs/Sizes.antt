@@ -27,7 +27,7 @@ pub record SameReading (a b : Reading) : Type 0 where
   pub nodes : unread (a .outcome) ≡ false → a .nodes ≡ b .nodes
   pub index-kept : came a ≡ true → take (a .tokenCount) (a .index) ≡ take (a .tokenCount) (b .index)
 
--- what a reading leaves of the tables t, e and n and of the index x: their lengths, the words behind the kept tokens and errors, those of the index behind the words of the kept tokens, all of
+-- what a reading leaves of the tables t, e and n and of the index x: their lengths, the words after the kept tokens and errors, those of the index after the words of the kept tokens, all of
 -- it where no parsing came, and after 3, 4 and 13 every word; after any other outcome every word past the kept nodes is 0
 pub record Rest (t e n x : List ℕ) (r : Reading) : Type 0 where
   pub tokens-long : length (r .tokens) ≡ length t

@@ -22,7 +22,7 @@ const MISMATCH: border::Answer = border::Answer {
     looks: 0,
 };
 
-/// The source that the next calls are about, with what stands behind it.
+/// The source that the next calls are about, with what stands after it.
 #[derive(Default)]
 pub struct Here {
     source: Vec<u8>,

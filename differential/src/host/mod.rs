@@ -1,7 +1,7 @@
 //! Calls of the library, through the crate `kettleplume` or as a child process.
 //!
 //! Each request is a call, or sets the source for the calls that follow it. Both ways put every
-//! table between guards and a byte behind the source.
+//! table between guards and a byte after the source.
 
 mod child;
 mod here;
@@ -13,7 +13,7 @@ use here::Here;
 /// What the host is asked. A source stays set until the next one.
 #[derive(Debug, Clone)]
 pub enum Request<'a> {
-    /// The bytes to read, and a byte that is put behind them for a reader that goes too far.
+    /// The bytes to read, and a byte that is put after them for a reader that goes too far.
     Source {
         bytes: &'a [u8],
         behind: u8,

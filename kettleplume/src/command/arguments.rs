@@ -23,7 +23,7 @@ found, and then a line that says what came of the reading. An error has its file
 line and column, the message, the line of the script, and a mark under the place. An
 error that the parser finds has the place of the word or mark at which it was found:
 where something is missing, of what stands there instead. That may be the end of a
-line or of the script; the mark then stands behind the last character. Columns count
+line or of the script; the mark then stands after the last character. Columns count
 characters. Lines are the file's own; a remark tells where another one is recorded.
 
 Where words or marks are wrong, as in a string that isn't closed, the statements are
@@ -35,18 +35,20 @@ is left out. Characters that a terminal shouldn't be given are shown by others.
 A FILE that is - is standard input. After -- every word is a FILE.
 
   --rule N   reads scripts that are written for rule N, 1 or 2; without it, rule 1. By
-             rule 2 a name may have digits behind its first letter or underscore, a
+             rule 2 a name may have digits after its first letter or underscore, a
              loop for x in y ends where its body does, so that a break or continue
-             behind it is a mistake, and a number with a point may end the script
+             after it is a mistake, and a number with a point may end the script
   --go-on    reads the statements all the same, as earlier versions of this command
              did; what it prints is what they printed
-  --outline  prints instead what a reading keeps, in document 01's form: a line o
-             for the answer, then a line t for each token, e for each error and
-             n for each node. The fifth number of a token is the line where it
-             begins. Of several files, each begins with a line f and its name. A
-             script for which the program outline has no room, up to 65,535 bytes,
-             is printed in full. Statements are always read, as with --go-on; the
-             rule is the one that --rule names.
+  --outline  prints instead an outline of what a reading keeps, in numbers: a line o
+             for the answer (outcome, how many tokens, errors and nodes, the first
+             statement), then a line t for each token (kind, start, length, line, and
+             the line where it begins), e for each error (message, line, place) and n
+             for each node (kind, three tokens, four children, next). docs/RULES.md in
+             the source says what the numbers mean. Of several files, each begins with
+             a line f and its name. A script for which the program outline has no room,
+             up to 65,535 bytes, is printed in full. Statements are always read, as
+             with --go-on; the rule is the one that --rule names.
   --help     prints this
   --version  prints the version
 

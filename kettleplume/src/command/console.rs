@@ -36,7 +36,7 @@ impl Console {
         }
     }
 
-    /// A report. It is written out at once, so that the next line of progress stands behind it.
+    /// A report. It is written out at once, so that the next line of progress stands after it.
     pub fn print(&mut self, text: &str) -> io::Result<()> {
         self.clear();
         let mut out = io::stdout().lock();

@@ -1,9 +1,9 @@
 //! The line in an error's record, beside the line of the file that its place is in.
 //!
-//! A record has the line of a token as the reader counts it: of a new line that is the line behind it,
+//! A record has the line of a token as the reader counts it: of a new line that is the line after it,
 //! of a string the one that it ends in. And the reader's count can fall behind the file's, since a new
-//! line behind a backslash that makes no escape isn't counted (document 01, lexing, rule 5). People look
-//! for a line by its number in the file, so that one is shown, and the other told where it may surprise.
+//! line after a backslash that makes no escape isn't counted (`docs/RULES.md`, 'Strings'). People look for
+//! a line by its number in the file. So that number is shown, and the other is told where it may surprise.
 
 use kettleplume::places::Places;
 use kettleplume::records::{self, message, token};
@@ -11,7 +11,7 @@ use kettleplume::token::Token;
 
 /// What is to be said of an error's line: where a string of several lines begins and ends, if the error
 /// is about one, for it is recorded with the last; and that the reader's count has fallen behind. A new
-/// line stands at the end of its line and is recorded with the next: of that there is nothing to say.
+/// line stands at the end of its line and is recorded with the next: nothing is said of that.
 pub fn of_lines(
     script: &Places,
     tokens: &[records::Token],
@@ -53,7 +53,7 @@ fn token_at(tokens: &[records::Token], pos: u32) -> Option<records::Token> {
     tokens.get(first).copied()
 }
 
-/// How many lines behind the one where it begins a string ends.
+/// How many lines after the one where it begins a string ends.
 fn further(token: &records::Token) -> usize {
     match token[token::KIND] == Token::String as u32 {
         true => (token[token::LINE] - token[token::BEGINS]) as usize,
@@ -80,8 +80,8 @@ mod tests {
     use super::*;
     use kettleplume::{Options, Tables};
 
-    /// The place whose line a token's record has, by document 01: behind a new line, at the closing
-    /// quote of a string.
+    /// The place whose line a token's record has (`docs/RULES.md`, 'Records'): after a new line, at the
+    /// closing quote of a string.
     fn line_place(token: &records::Token) -> usize {
         const NEWLINE: u32 = Token::Newline as u32;
         const STRING: u32 = Token::String as u32;
@@ -172,13 +172,13 @@ mod tests {
         assert_eq!(remarks("\"\\\na b\n")[1..], [[behind]]);
     }
 
-    /// A string of several lines behind a new line that isn't counted: its lines are the file's.
+    /// A string of several lines after a new line that isn't counted: its lines are the file's.
     #[test]
     fn what_is_said_of_a_string_behind_a_miscount() {
         let string = "the string begins in line 2 and ends in line 4";
         let behind = "recorded with line 3: a new line behind a backslash isn't counted";
         assert_eq!(remarks("\"\\\na \"b\n\nc\"\n")[1..], [[string, behind]]);
-        // Here the count, which is one behind, is that of the file's line all the same.
+        // Here the count, which is one too low, is that of the file's line all the same.
         let string = "the string begins in line 2 and ends in line 3";
         assert_eq!(remarks("\"\\\na \"b\nc\"\n")[1..], [[string]]);
     }

@@ -13,7 +13,7 @@ const FROM_PLACE: usize = 40;
 /// Stands for what is left out.
 const CUT: &str = "...";
 
-/// The line of a place and, below, a mark under it: behind the last letter, where the place is the end
+/// The line of a place and, below, a mark under it: after the last letter, where the place is the end
 /// of the line or of the script.
 pub fn marked(script: &Places, at: usize) -> String {
     let line = script.line(at);

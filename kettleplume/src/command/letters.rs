@@ -13,7 +13,7 @@ use super::wide::is_wide;
 pub struct Letter {
     /// How many bytes it has.
     pub length: usize,
-    /// Its character; U+FFFD for bytes that are none, which only a source has that was not read.
+    /// Its character; U+FFFD for bytes that are none. Only a source that was not read has such bytes.
     pub char: char,
     /// What is shown for it: one character. A tab stays a tab.
     pub shown: char,

@@ -2,8 +2,8 @@
 //!
 //! `arguments` says what is asked for, `input` fetches a script. `report` puts a reading into words for
 //! people, with `excerpt` for the line shown and its mark, `letters` and `wide` for what a terminal may
-//! be given and the room that it takes there, and `counted` for the line in a record; `outline` prints
-//! it in document 01's form. `console` is the only part that prints.
+//! be given and the room that it takes there, and `counted` for the line in a record; `outline` puts
+//! it into the form of an outline. `console` is the only part that prints.
 
 mod arguments;
 mod console;
@@ -42,7 +42,7 @@ impl From<Status> for ExitCode {
     }
 }
 
-/// Runs the command with the words behind its name.
+/// Runs the command with the words after its name.
 pub fn run(words: impl Iterator<Item = OsString>) -> Status {
     match arguments::task(words) {
         Ok(Task::Help) => tell(HELP),
@@ -89,7 +89,7 @@ fn read_all(asked: &Asked, console: &mut Console) -> io::Result<Status> {
     Ok(status)
 }
 
-/// An outline is what the program `outline` prints, which goes on.
+/// An outline goes on after errors of the lexer, as the program `outline` does.
 fn options(asked: &Asked) -> Options {
     let way = match asked.go_on || asked.outline {
         true => Way::GoOn,
@@ -103,7 +103,7 @@ fn text(asked: &Asked, name: &str, source: &[u8], records: &Records) -> String {
     if !asked.outline {
         return report::report(name, source, records);
     }
-    // One outline alone is byte for byte what document 01 asks for.
+    // One outline alone is byte for byte as `docs/RULES.md`, 'Outline', says.
     let head = match asked.files.len() {
         1 => String::new(),
         _ => format!("f {name}\n"),

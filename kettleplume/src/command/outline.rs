@@ -1,5 +1,5 @@
-//! What a reading keeps, in document 01's form. The crate `form` has it proved, for tables of the
-//! sizes that document 01 gives the program `outline`; these here are as large as the script needs.
+//! What a reading keeps, as an outline (`docs/RULES.md`, 'Outline'). The crate `form` has it proved, for
+//! tables of the sizes that the program `outline` has. The tables here are as large as the script needs.
 
 use std::fmt::Write as _;
 

@@ -19,7 +19,7 @@ pub enum Verdict {
     /// Refused by this clause alone, and without it two scripts would be permitted that are read
     /// differently.
     Needed(Clause),
-    /// Refused by this clause alone, though both are read alike: the demand is that narrow.
+    /// Refused by this clause alone, though both are read alike: the premise is that narrow.
     Narrow(Clause),
     /// Refused by more than one clause, and read differently.
     Refused,
@@ -102,13 +102,13 @@ const PAIRS: &[Listed<Verdict>] = &[
     ),
     ("marks in a string", b"\"a\"b", b"\"#\"a", Permitted),
     (
-        "behind a wrong escape",
+        "after a wrong escape",
         b"\"\\qa\" b",
         b"\"\\qc\" b",
         Permitted,
     ),
     ("before an open string", b"a \"b", b"c \"b", Permitted),
-    ("behind a number", b"1.5a", b"1.5b", Permitted),
+    ("after a number", b"1.5a", b"1.5b", Permitted),
     ("about a message", b"a ! b", b"c ! d", Permitted),
     ("a number to the last byte", b"a 1.5", b"b 1.5", Permitted),
     ("a stop", b"1=a", b"1=b", Permitted),
@@ -226,9 +226,9 @@ const PAIRS: &[Listed<Verdict>] = &[
         b"1b",
         Needed(Clause::NameToName),
     ),
-    ("a name right behind a number", b"1a", b"1b", Permitted),
+    ("a name right after a number", b"1a", b"1b", Permitted),
     (
-        "a name behind a number joins it",
+        "a name after a number joins it",
         b"1a",
         b"12",
         Needed(Clause::NameToName),
@@ -270,19 +270,19 @@ const RULED: &[Listed<[Verdict; 2]>] = &[
         [Needed(Clause::NameToName), Permitted],
     ),
     (
-        "a digit behind a letter becomes another",
+        "a digit after a letter becomes another",
         b"a1",
         b"b2",
         [Needed(Clause::Only), Permitted],
     ),
     (
-        "a digit behind a letter becomes a letter",
+        "a digit after a letter becomes a letter",
         b"_1",
         b"a_",
         [Needed(Clause::Only), Permitted],
     ),
     (
-        "a digit behind a letter becomes a blank",
+        "a digit after a letter becomes a blank",
         b"a1",
         b"a ",
         [Needed(Clause::Only), Needed(Clause::NameToName)],
@@ -330,7 +330,7 @@ const RULED: &[Listed<[Verdict; 2]>] = &[
         [Narrow(Clause::Only), Needed(Clause::Only)],
     ),
     (
-        "an enhanced for and what stands behind it",
+        "an enhanced for and what stands after it",
         b"for a1 in b2 {}\nbreak",
         b"for x9 in y_ {}\nbreak",
         [Needed(Clause::Only), Permitted],

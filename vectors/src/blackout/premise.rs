@@ -1,51 +1,52 @@
-//! Demand 3's premise: what of a script may be blacked out, and to what, by a rule.
+//! The premise of blacking out: what of a script may be blacked out, and what may stand there instead, by
+//! a rule.
 //!
-//! Written from the demand's words, and in another way than the Rattle definition: the first script
-//! is cut into pieces, and each is held against the same bytes of the second. Any one clause can be
-//! dropped, to show that it is needed.
+//! Written from the words of `docs/RULES.md`, 'Blacking out', and in another way than the Rattle
+//! definition: the first script is cut into pieces, and each is held against the same bytes of the second.
+//! Any one clause can be dropped, to show that it is needed.
 
 use expected::lex_scripts::KEYWORDS;
 use expected::lexing::{is_text, LONGEST};
 use expected::rules::Rule;
 
-/// The demand's clauses, in its order.
+/// The clauses of the premise (`docs/RULES.md`, 'Blacking out').
 #[derive(Debug, Clone, Copy, PartialEq, Eq, PartialOrd, Ord)]
 pub enum Clause {
-    /// "two scripts of equal length"
+    /// Both have the same length.
     EqualLength,
-    /// "within the limit"
+    /// They are within the limit.
     Limit,
-    /// "both passing the text test": the first
+    /// The first passes the text test.
     FirstText,
-    /// the second
+    /// The second passes it.
     SecondText,
-    /// "differs only in comments, in strings .. and in names"
+    /// The second differs only in comments, in strings and in names.
     Only,
-    /// "strings that the first closes properly"
+    /// These are strings that the first closes properly.
     ClosedProperly,
-    /// "Comments keep their #"
+    /// Comments keep their #.
     Hash,
-    /// "and gain no newline"
+    /// They gain no newline.
     CommentNewline,
-    /// "In strings, the quotes .. stay as they are"
+    /// In strings the quotes stay as they are.
     Quotes,
-    /// "the escapes": a backslash
+    /// So do the escapes: the backslash.
     Backslashes,
-    /// "and the one byte it takes"
+    /// And the one byte that it takes.
     EscapedBytes,
-    /// "and the newlines"
+    /// So do the newlines.
     Newlines,
-    /// "no other quote .. appears"
+    /// No other quote appears in them.
     NoQuote,
-    /// "no other .. backslash"
+    /// No other backslash does.
     NoBackslash,
-    /// "no other .. newline"
+    /// No other newline does.
     NoNewline,
-    /// "A name becomes a name of the same length", by the rule
+    /// A name becomes a name of the same length, by the rule.
     NameToName,
-    /// "neither is a keyword": the first's
+    /// The first's name is no keyword.
     WasKeyword,
-    /// the second's
+    /// The second's is no keyword.
     BecomesKeyword,
 }
 
@@ -70,7 +71,7 @@ pub const CLAUSES: [Clause; 18] = [
     Clause::BecomesKeyword,
 ];
 
-/// Whether the second is a script that the demand speaks of beside the first, both read by a rule.
+/// Whether the second is the first but for what may be blacked out, both read by a rule.
 pub fn permitted(rule: Rule, first: &[u8], second: &[u8]) -> bool {
     permitted_but(None, rule, first, second)
 }
@@ -92,7 +93,7 @@ pub enum Kind {
     Comment,
     /// From quote to quote.
     String,
-    /// A string that isn't closed: up to its end, or to the byte behind a wrong backslash.
+    /// A string that isn't closed: up to its end, or to the byte after a wrong backslash.
     Broken,
     Name,
     Keyword,
@@ -113,7 +114,7 @@ pub fn pieces(rule: Rule, script: &[u8]) -> Vec<Piece> {
     cut(rule, script, true)
 }
 
-/// The same; where strings needn't be proper, one goes on behind a wrong escape, and to the
+/// The same; where strings needn't be proper, one goes on after a wrong escape, and to the
 /// script's end if no quote closes it.
 fn cut(rule: Rule, script: &[u8], proper: bool) -> Vec<Piece> {
     let (mut pieces, mut start) = (vec![], 0);
@@ -164,7 +165,7 @@ fn is_letter(byte: u8) -> bool {
     byte.is_ascii_alphabetic() || byte == b'_'
 }
 
-/// What a name has behind its first byte.
+/// What a name has after its first byte.
 fn is_named(rule: Rule, byte: u8) -> bool {
     is_letter(byte) || (rule == Rule::Two && byte.is_ascii_digit())
 }

@@ -6,7 +6,7 @@ use expected::rules::{number, Rule};
 
 use crate::definition::{original, Case};
 
-/// What demand 3 says is the same.
+/// What is the same for two scripts that are alike but for what is blacked out.
 #[derive(Debug, Clone, PartialEq, Eq)]
 pub struct Tables {
     /// Outcome, counts, first statement and looks.

@@ -2,8 +2,8 @@
 //! reading: each file in `crates/scripts/proofs` that is made here has one table of scripts and
 //! one theorem, which says that the definition answers as the original does. Where the original
 //! has no answer, for want of tables and levels, the outcome and how many records are kept follow
-//! document 01 and stand beside the script; the records themselves are still the original's, and so are
-//! the looks, which its parser makes up to the record that finds no room.
+//! `docs/RULES.md`, 'Outcomes', and stand beside the script; the records themselves are still the
+//! original's, and so are the looks, which its parser makes up to the record that finds no room.
 
 mod random;
 mod scripts;
@@ -36,7 +36,7 @@ pub struct Script {
     pub ends: Option<End>,
 }
 
-/// How a reading ends that the original doesn't know, by document 01.
+/// How a reading ends that the original doesn't know (`docs/RULES.md`, 'Outcomes').
 #[derive(Clone, Copy)]
 pub struct End {
     pub outcome: u32,
@@ -57,8 +57,8 @@ pub struct Case {
     pub index: Vec<u32>,
 }
 
-/// What the original makes of a script. Where document 01 decides instead, how the reading ends
-/// stands beside the script, and the log of the original's parser has to say the same.
+/// What the original makes of a script. Where the added outcomes decide instead (`docs/RULES.md`), how the
+/// reading ends stands beside the script, and the log of the original's parser has to say the same.
 pub fn case(script: &Script) -> Case {
     let &Script {
         rule,
@@ -233,7 +233,7 @@ fn theorem(number: usize, cases: &[Case]) -> String {
     out + UNFOLDING + &format!("agree-{number} = refl\n")
 }
 
-/// Words, each with the sign of lists behind it.
+/// Words, each with the sign of lists after it.
 fn words(row: &[u32]) -> String {
     let words: Vec<String> = row.iter().map(|word| format!("{word} ∷")).collect();
     words.join(" ")

@@ -150,7 +150,7 @@ pub fn slow() -> File {
     let counts = plain(&texts.each_ref().map(String::as_str));
     File {
         name: "Slow",
-        comment: "Limits of parameters and arguments, with what the original answers, and of levels, with what document 01 says.",
+        comment: "Limits of parameters and arguments, with what the original answers, and of levels, with what docs/RULES.md says.",
         scripts: counts.into_iter().chain(levels(MORE_WAYS)).collect(),
     }
 }
@@ -160,7 +160,7 @@ pub fn files() -> Vec<File> {
     vec![
         File {
             name: "Stars",
-            comment: "The scripts that document 01 marks *, with what the original answers.",
+            comment: "The scripts that docs/RULES.md, 'Parsing', marks *, with what the original answers.",
             scripts: plain(STARS),
         },
         File {
@@ -170,7 +170,7 @@ pub fn files() -> Vec<File> {
         },
         File {
             name: "Oracle",
-            comment: "Each message, newlines and assignments, with what the original answers; and small tables, which it doesn't have, with what document 01 says.",
+            comment: "Each message, newlines and assignments, with what the original answers; and small tables, which it doesn't have, with what docs/RULES.md says.",
             scripts: oracle.into_iter().flatten().chain(ending(SMALL)).collect(),
         },
         File {
@@ -180,7 +180,7 @@ pub fn files() -> Vec<File> {
         },
         File {
             name: "Index",
-            comment: "Newline indices that are too short, which the original doesn't have, with what document 01 says; and some that are just long enough.",
+            comment: "Newline indices that are too short, which the original doesn't have, with what docs/RULES.md says; and some that are just long enough.",
             scripts: indexed(),
         },
         File {
@@ -190,7 +190,7 @@ pub fn files() -> Vec<File> {
         },
         File {
             name: "Limits",
-            comment: "The most levels that are read, with what the original answers; and one more, where document 01 says outcome 8.",
+            comment: "The most levels that are read, with what the original answers; and one more, where docs/RULES.md says outcome 8.",
             scripts: levels(WAYS),
         },
         File {

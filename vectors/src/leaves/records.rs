@@ -2,7 +2,7 @@
 //! a table at n. `l words r m`: what follows a node. `z words n`: the nodes from n on made 0.
 //! `r words i`: a token's words and the table's rooms.
 //!
-//! The judge is a plain rendering of document 01's section on records.
+//! The judge is a plain rendering of `docs/RULES.md`, 'Records'.
 
 use crate::sheet::{list, Sheet};
 use expected::records::node::NEXT;

@@ -12,7 +12,7 @@ fn is_alpha(b: u8) -> bool {
     b.is_ascii_alphabetic() || b == b'_'
 }
 
-/// What a name of the rule may have behind its first byte.
+/// What a name of the rule may have after its first byte.
 fn is_named(rule: Rule, b: u8) -> bool {
     is_alpha(b) || (rule == Rule::Two && b.is_ascii_digit())
 }

@@ -2,8 +2,8 @@
 //! `d HEX start room`: the string at start, decoded into a buffer of room bytes.
 //! `u n`: decoding a source of 65,535 + n bytes.
 //!
-//! The judge is a direct rendering of rule 5 and of document 01's paragraph on decoding. What it
-//! says of a valid text is compared with the original.
+//! The judge is a direct rendering of `docs/RULES.md`, 'Strings' and 'Decoding'. What it says of a valid
+//! text is compared with the original.
 
 use crate::leaves::FAR;
 use crate::sheet::{hex, Sheet};

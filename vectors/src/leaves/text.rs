@@ -24,7 +24,7 @@ pub fn add(sheet: &mut Sheet) {
     add_texts(sheet);
 }
 
-/// The first and the last sequence of a row, with bytes behind it, cut, and with each byte just
+/// The first and the last sequence of a row, with bytes after it, cut, and with each byte just
 /// outside its range.
 fn add_row(sheet: &mut Sheet, row: Row) {
     let first: Vec<u8> = row.iter().map(|range| *range.start()).collect();

@@ -50,8 +50,8 @@ struct Kept {
     errors: Vec<String>,
 }
 
-/// Document 01, 'Outcomes', with the rule before them: 13 is tested first, then 4, then 3; after that
-/// the first event in reading order decides, and what came before is kept.
+/// `docs/RULES.md`, 'Outcomes': 13 is tested first, then 4, then 3; after that the first event in reading
+/// order decides, and what came before is kept.
 fn keep(rule: u32, source: &[u8], token_room: usize, error_room: usize) -> Kept {
     let mut kept = Kept::default();
     let Some(rule) = named(rule) else {

@@ -71,7 +71,8 @@ fn strings() -> Vec<String> {
     CLOSED.iter().chain(&BROKEN).flat_map(forms).collect()
 }
 
-/// The scripts of document 01, save for those with a count.
+/// Scripts on each side of a line (`docs/RULES.md`, 'Parsing') and others like them, save for those with a
+/// count.
 const DOCUMENT: [&str; 33] = [
     "",
     "\n",
@@ -108,7 +109,7 @@ const DOCUMENT: [&str; 33] = [
     "let f = fn (x) -x % 2 >= 0.5\nf(1)\n",
 ];
 
-/// The scripts of document 01 with a count: parameters, arguments and brackets.
+/// Those with a count (`docs/RULES.md`, 'Levels'): parameters, arguments and brackets.
 fn sized() -> Vec<Vec<u8>> {
     let names = |n: usize| vec!["a"; n].join(",");
     let brackets = |n: usize| format!("{}a{}", "(".repeat(n), ")".repeat(n));
@@ -124,7 +125,7 @@ fn sized() -> Vec<Vec<u8>> {
     .to_vec()
 }
 
-/// Scripts at the edges of rules 1 to 7, and where the original surprises.
+/// Scripts at the edges of rules 1 to 7 (`docs/RULES.md`, 'Lexing'), and where the original surprises.
 const RULES: [&str; 107] = [
     // Rule 1: lines.
     "a\nb\n",
@@ -289,7 +290,7 @@ pub const FOR_SHORT_TABLES: [&str; 9] = [
 /// The same for rule two: a name with a digit, and numbers that would cut rule one's lexing.
 pub const FOR_SHORT_TABLES_BY_TWO: [&str; 4] = ["a1", "1.5", "2.", "a1 ! \"\n\" ? 2.5"];
 
-/// The pieces of random scripts. Digits behind letters are among what comes of them.
+/// The pieces of random scripts. Digits after letters are among what comes of them.
 pub const PIECES: [&[u8]; 48] = [
     b"a",
     b"_b",

@@ -33,7 +33,7 @@ inside : (c : tie.After-item-at Inv-loop μ-loop)
     × (decodedOf (c .item-at .result) ≤ sizeOf (c .item-at .result))
 inside c = bounded-at (c .before .before .before .before .before .before .args .rule) (c .before .before .before .before .before .before .args .source .now) (c .before .before .loop .at) (c .item-at .result) (omega arith) (c .item-at .ensures)
 
--- where the lexing goes on, it stands behind the item
+-- where the lexing goes on, it stands after the item
 further : (c : tie.After-known-told Inv-loop μ-loop)
     → Moved (c .before .before .before .before .before .before .before .before .before .before .before .before .loop .l) (sizeOf (c .before .before .before .before .before .before .before .before .before .before .item-at .result)) (linesOf (c .before .before .before .before .before .before .before .before .before .before .item-at .result)) (On (c .before .m .given .0 .0))
 further c =
