@@ -118,8 +118,8 @@ module _ (T : View) (l : ℕ) where
   one-keeps p E N h = ap (λ (rule : ℕ). reply (looped p (loopsBehind rule (p .loops))) (Node (plain 0)) E N) h
 
   -- `for_loop` once it has seen a name, as the original has it
-  abbrev pub enhancedAsBefore : ℕ → Prog
-  enhancedAsBefore keyword = do
+  abbrev pub originalEnhanced : ℕ → Prog
+  originalEnhanced keyword = do
     ids ← namesFrom T (fuel T) 0 0
     consume In expectedIn
     collection ← expression
@@ -127,7 +127,7 @@ module _ (T : View) (l : ℕ) where
     node (enhancedForRow keyword (ids .node) (collection .node) (stmt .node))
 
   -- BY RULE ONE AN ENHANCED FOR IS READ AS THE ORIGINAL READS IT
-  pub one-enhanced : (keyword : ℕ) (p : State) (E N : List ℕ) → p .rule ≡ one → run T low (enhancedFor T keyword) p E N ≡ run T low (enhancedAsBefore keyword) p E N
+  pub one-enhanced : (keyword : ℕ) (p : State) (E N : List ℕ) → p .rule ≡ one → run T low (enhancedFor T keyword) p E N ≡ run T low (originalEnhanced keyword) p E N
   unfolding run enhancedFor
   one-enhanced keyword p E N h =
       then-one _ _ _ (by-one (namesFrom T (fuel T) 0 0) p E N h) λ ids p E N h.

@@ -12,7 +12,7 @@ const MARKS: [&str; 23] = [
 
 /// All scripts that are not random and pass the text test.
 pub fn fixed() -> Vec<Vec<u8>> {
-    let mut scripts: Vec<Vec<u8>> = DOCUMENT.iter().map(|s| s.as_bytes().to_vec()).collect();
+    let mut scripts: Vec<Vec<u8>> = OF_THE_RULES.iter().map(|s| s.as_bytes().to_vec()).collect();
     scripts.extend(sized());
     scripts.extend(RULES.iter().map(|s| s.as_bytes().to_vec()));
     scripts.extend((0..=0x7f).map(|byte| vec![byte]));
@@ -73,7 +73,7 @@ fn strings() -> Vec<String> {
 
 /// Scripts on each side of a line (`docs/RULES.md`, 'Parsing') and others like them, save for those with a
 /// count.
-const DOCUMENT: [&str; 33] = [
+const OF_THE_RULES: [&str; 33] = [
     "",
     "\n",
     "\n\n",
