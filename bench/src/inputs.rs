@@ -59,7 +59,7 @@ pub fn forms() -> Vec<Input> {
         Input::one("blank lines between statements", blank_lines(100)),
         Input::one("the same to 64 KiB", blank_lines(963)),
         Input::one("2,000 trailing blank lines", trailing()),
-        Input::ours("65,000 behind the mixed script", mixed_and_lines()),
+        Input::ours("65,000 after the mixed script", mixed_and_lines()),
         Input::ours("65,000 newlines", "\n".repeat(LINES)),
     ]
 }

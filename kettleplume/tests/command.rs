@@ -765,7 +765,7 @@ fn words_that_are_not_understood() {
         (&["read", "--outline"], "a file to read is missing"),
         (&["read", "--go-on"], "a file to read is missing"),
         (&["read", "--"], "a file to read is missing"),
-        (&["read", "--rule"], "the number behind --rule is missing"),
+        (&["read", "--rule"], "the number after --rule is missing"),
         (&["read", "--rule", "2"], "a file to read is missing"),
         (
             &["read", "--rule", "3", "a.gr"],

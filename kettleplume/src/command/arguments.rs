@@ -100,7 +100,7 @@ fn read(mut words: impl Iterator<Item = OsString>) -> Result<Task, String> {
         match word.to_str() {
             Some("--") if options => options = false,
             Some("--rule") if options => {
-                let number = words.next().ok_or("the number behind --rule is missing")?;
+                let number = words.next().ok_or("the number after --rule is missing")?;
                 asked.rule = rule(&number)?;
             }
             Some(text) if options && text.starts_with(RULE_IS) => {
