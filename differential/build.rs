@@ -2,6 +2,11 @@
 
 fn main() {
     println!("cargo::rerun-if-changed=build.rs");
-    let archives = std::env::var("DEP_KETTLEPLUME_ARCHIVES").expect("a folder of archives");
-    println!("cargo::rustc-env=KETTLEPLUME_ARCHIVES={archives}");
+    match std::env::var("DEP_KETTLEPLUME_ARCHIVES") {
+        Ok(archives) => println!("cargo::rustc-env=KETTLEPLUME_ARCHIVES={archives}"),
+        Err(_) => println!(
+            "cargo::error=no folder of archives: whoever overrides the library that `kettleplume` links \
+             also sets `archives`, the folder with libreader.a and libpair.a"
+        ),
+    }
 }

@@ -26,11 +26,15 @@
  * the read answered 18 and changed nothing. The count is that of the answers 19: tokens, errors, nodes,
  * first statement and looks of each follow. After 4 they are 1 and 0.
  *
- * No header is included: the toolchain's compiler comes without those of the C library.
+ * No header of the C library is included: the toolchain's compiler comes without them.
  */
-typedef unsigned char u8;
-typedef unsigned int u32;
-typedef unsigned long usize; /* 64 bits on x86-64 Linux */
+#include "kettleplume.h"
+
+typedef uint8_t u8;
+typedef uint32_t u32;
+typedef size_t usize;
+typedef kettleplume_answer Answer;
+typedef kettleplume_parser Parser;
 
 long read(int file, void *bytes, usize length);
 long write(int file, const void *bytes, usize length);
@@ -38,44 +42,20 @@ void *memset(void *bytes, int value, usize length);
 void *memcpy(void *to, const void *from, usize length);
 void exit(int status) __attribute__((noreturn));
 
-/* The border: a slice is a pointer and a length, an answer is a struct as C lays it out. */
-struct Scanned { u32 outcome, tokens, errors; };
-struct Decoded { u32 outcome; usize length; };
-struct Answer { u32 outcome, tokens, errors, nodes, first, looks; };
-struct Scanned kettleplume_scan(u32 rule, const u8 *source, usize length, u32 *tokens,
-                                usize token_words, u32 *errors, usize error_words);
-struct Decoded kettleplume_decode(const u8 *source, usize length, usize start, u8 *buffer, usize room);
-struct Answer kettleplume_read(u32 rule, u32 way, const u8 *source, usize length, u32 *tokens,
-                               usize token_words, u32 *errors, usize error_words, u32 *nodes,
-                               usize node_words, u32 *index, usize index_words);
-struct Parser {
-    u32 rule, way, current, loops, tokens, errors, nodes, first, last, ended, outcome, looks;
-};
-struct Answer kettleplume_begin(struct Parser *parser, const u8 *source, usize length, u32 *tokens,
-                                usize token_words, u32 *errors, usize error_words, u32 *nodes,
-                                usize node_words, u32 *index, usize index_words);
-struct Answer kettleplume_next(struct Parser *parser, const u8 *source, usize length, u32 *tokens,
-                               usize token_words, u32 *errors, usize error_words, u32 *nodes,
-                               usize node_words, u32 *index, usize index_words);
-
-/* The words of each record and of an answer 19, and some outcomes, that there is more to read, that the
- * rule is none and that parser and tables don't go together, come from the compiler's command line,
- * where src/host/child.rs puts Rust's own numbers. */
-#if !defined TOKEN_WORDS || !defined ERROR_WORDS || !defined NODE_WORDS || !defined INDEX_WORDS
-#error "TOKEN_WORDS, ERROR_WORDS, NODE_WORDS and INDEX_WORDS have to be given"
-#endif
-#if !defined SO_FAR || !defined MORE || !defined WRONG_RULE || !defined MISMATCH
-#error "SO_FAR, MORE, WRONG_RULE and MISMATCH have to be given"
+/* The words of an answer 19 that are compared come from the compiler's command line, where
+ * src/host/child.rs puts Rust's own number. */
+#if !defined SO_FAR
+#error "SO_FAR has to be given"
 #endif
 
 enum {
     GUARD = 8, /* words or bytes on each side of a table */
     SOURCE = 1 << 17,
     /* the most words of each table */
-    TOKEN_TABLE = TOKEN_WORDS * (1 << 16) + 64,
-    ERROR_TABLE = ERROR_WORDS * (1 << 17) + 64,
-    NODE_TABLE = NODE_WORDS * (1 << 18) + 64,
-    INDEX_TABLE = INDEX_WORDS * (1 << 16) + 64,
+    TOKEN_TABLE = KETTLEPLUME_TOKEN_WORDS * (1 << 16) + 64,
+    ERROR_TABLE = KETTLEPLUME_ERROR_WORDS * (1 << 17) + 64,
+    NODE_TABLE = KETTLEPLUME_NODE_WORDS * (1 << 18) + 64,
+    INDEX_TABLE = KETTLEPLUME_INDEX_WORDS * (1 << 16) + 64,
     BUFFER = 1 << 17,
     PIPE = 1 << 16
 };
@@ -152,8 +132,8 @@ static void lex(usize token_words, usize error_words, u32 fill, u32 rule) {
     if (token_words > TOKEN_TABLE || error_words > ERROR_TABLE) exit(2);
     lay(tokens, token_words, fill);
     lay(errors, error_words, fill);
-    struct Scanned r = kettleplume_scan(rule, source, source_length, tokens + GUARD, token_words,
-                                        errors + GUARD, error_words);
+    kettleplume_scanned r = kettleplume_scan(rule, source, source_length, tokens + GUARD, token_words,
+                                             errors + GUARD, error_words);
     u32 whole = intact(tokens, token_words) & intact(errors, error_words);
     u32 answer[4] = {r.outcome, r.tokens, r.errors, whole};
     put(answer, sizeof answer);
@@ -182,11 +162,11 @@ static u32 same_words(const u32 *a, const u32 *b, usize words) {
     return 1;
 }
 
-static u32 same_answer(const struct Answer *a, const struct Answer *b) {
+static u32 same_answer(const Answer *a, const Answer *b) {
     return same_words((const u32 *)a, (const u32 *)b, sizeof *a / sizeof(u32));
 }
 
-static u32 same_parser(const struct Parser *a, const struct Parser *b) {
+static u32 same_parser(const Parser *a, const Parser *b) {
     return same_words((const u32 *)a, (const u32 *)b, sizeof *a / sizeof(u32));
 }
 
@@ -200,33 +180,31 @@ static u32 as_kept(const struct Sizes *sizes) {
 }
 
 /* A call of the pair. */
-typedef struct Answer Lent(struct Parser *, const u8 *, usize, u32 *, usize, u32 *, usize, u32 *, usize,
-                           u32 *, usize);
+typedef Answer Lent(Parser *, const u8 *, usize, u32 *, usize, u32 *, usize, u32 *, usize, u32 *, usize);
 
-static struct Answer call(Lent *function, struct Parser *parser, const struct Sizes *sizes) {
+static Answer call(Lent *function, Parser *parser, const struct Sizes *sizes) {
     const usize *words = sizes->words;
     return function(parser, source, source_length, tokens + GUARD, words[0], errors + GUARD, words[1],
                     nodes + GUARD, words[2], lines + GUARD, words[3]);
 }
 
 /* Begins and reads up to the final answer, and once more; no source needs more reads than this. */
-static struct Answer one_at_a_time(u32 rule, u32 way, const struct Sizes *sizes, u32 *steady,
-                                   u32 *count) {
-    static const struct Parser none;
-    static const struct Answer mismatch = {MISMATCH, 0, 0, 0, 0, 0};
-    struct Parser set = none;
+static Answer one_at_a_time(u32 rule, u32 way, const struct Sizes *sizes, u32 *steady, u32 *count) {
+    static const Parser none;
+    static const Answer mismatch = {KETTLEPLUME_MISMATCH, 0, 0, 0, 0, 0};
+    Parser set = none;
     set.rule = rule, set.way = way;
-    struct Parser parser = set;
-    struct Answer r = call(kettleplume_begin, &parser, sizes);
-    for (*count = 0; r.outcome == MORE && *count < source_length + 3; ++*count) {
+    Parser parser = set;
+    Answer r = call(kettleplume_begin, &parser, sizes);
+    for (*count = 0; r.outcome == KETTLEPLUME_MORE && *count < source_length + 3; ++*count) {
         u32 *at = so_far + SO_FAR * *count;
         at[0] = r.tokens, at[1] = r.errors, at[2] = r.nodes, at[3] = r.first, at[4] = r.looks;
         r = call(kettleplume_next, &parser, sizes);
     }
     keep(sizes);
-    struct Parser before = parser;
-    struct Answer again = call(kettleplume_next, &parser, sizes);
-    u32 refused = r.outcome == WRONG_RULE;
+    Parser before = parser;
+    Answer again = call(kettleplume_next, &parser, sizes);
+    u32 refused = r.outcome == KETTLEPLUME_WRONG_RULE;
     *steady = as_kept(sizes) & (parser.rule == rule) & (parser.way == way) &
               same_answer(&again, refused ? &mismatch : &r) &
               same_parser(&parser, refused ? &set : &before);
@@ -240,7 +218,7 @@ static void read_into(u32 pair, const struct Sizes *sizes, u32 fill, u32 rule, u
         lay(tables[i], words[i], fill);
     }
     u32 steady = 1, count = 0, whole = 1;
-    struct Answer r =
+    Answer r =
         pair ? one_at_a_time(rule, way, sizes, &steady, &count)
              : kettleplume_read(rule, way, source, source_length, tokens + GUARD, words[0],
                                 errors + GUARD, words[1], nodes + GUARD, words[2], lines + GUARD,
@@ -256,7 +234,7 @@ static void decode(usize room, u8 fill, usize start) {
     if (room > BUFFER) exit(2);
     memset(buffer, GUARD_BYTE, room + 2 * GUARD);
     memset(buffer + GUARD, fill, room);
-    struct Decoded r = kettleplume_decode(source, source_length, start, buffer + GUARD, room);
+    kettleplume_decoded r = kettleplume_decode(source, source_length, start, buffer + GUARD, room);
     u32 whole = 1;
     for (usize i = 0; i < GUARD; i++)
         if (buffer[i] != GUARD_BYTE || buffer[GUARD + room + i] != GUARD_BYTE) whole = 0;

@@ -3,6 +3,10 @@
 //! A slice crosses it as a pointer and a length, in two parameters. Each function takes any bytes
 //! and tables of any size, and writes nothing beyond them; its promise, which is proved, says what
 //! every word is afterwards (docs/PROMISES.md).
+//!
+//! The raw calls are private. What they rely on their caller for, that a pointer is valid for its length and
+//! that nothing lent overlaps, is what a slice is. So the functions here are safe. For C
+//! `include/kettleplume.h` says it, beside the same declarations.
 
 use crate::options::Options;
 

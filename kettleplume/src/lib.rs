@@ -7,7 +7,8 @@
 //! [`expr`], [`stmt`] and [`state`].
 //!
 //! It is built with the Rattle toolchain's `rt` on the `PATH`, for Linux on x86-64 or aarch64, and
-//! needs nothing else beyond the standard library.
+//! needs nothing else beyond the standard library. The first build proves for minutes. What it proved is
+//! kept in the repository, and linked by every later build that it fits.
 //!
 //! # Reading a script
 //!
@@ -184,9 +185,8 @@ pub mod stmt;
 
 /// The original's `token.rs`, without the derives that belong to running scripts.
 #[allow(warnings, clippy::all)]
-pub mod token {
-    include!(concat!(env!("OUT_DIR"), "/token.rs"));
-}
+#[rustfmt::skip]
+pub mod token;
 
 pub use discard::discard;
 pub use error::Error;

@@ -2,7 +2,7 @@
 //! kinds of nodes, the outcomes, the rules, the ways to read and some messages.
 //!
 //! These are the only definitions on the Rust side. The crates that compare with the original compile
-//! this file too, and hand the widths on to what they compile of C.
+//! this file too, and a test holds the numbers of the C header against it.
 
 use std::ops::RangeInclusive;
 

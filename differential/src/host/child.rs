@@ -13,8 +13,6 @@ use std::process::{self, ChildStdin, ChildStdout, Command, Stdio};
 use std::sync::OnceLock;
 use std::thread;
 
-use expected::records::{outcome, ERROR_WORDS, INDEX_WORDS, NODE_WORDS, TOKEN_WORDS};
-
 use super::{Answer, DecodeAnswer, LexAnswer, ReadAnswer, Request, SO_FAR};
 
 /// A running child.
@@ -167,6 +165,9 @@ fn words(from: &mut BufReader<ChildStdout>, count: usize) -> io::Result<Vec<u32>
     Ok(bytes.chunks_exact(4).map(word).collect())
 }
 
+/// The two headers of C itself, for the toolchain's compiler, which comes without them.
+const BARE: &str = concat!(env!("CARGO_MANIFEST_DIR"), "/bare");
+
 /// Where the library's archives are.
 const ARCHIVES: &str = env!("KETTLEPLUME_ARCHIVES");
 
@@ -187,7 +188,7 @@ fn build() -> Vec<OsString> {
     let source = here.join("host.c");
     let words = if env::consts::ARCH == "x86_64" {
         run(Command::new("cc")
-            .args(numbers())
+            .args(given())
             .args(["-O2", "-o"])
             .args([&fresh, &source])
             .args(&archives));
@@ -200,18 +201,11 @@ fn build() -> Vec<OsString> {
     words
 }
 
-/// What `host.c` has to know: the numbers have their definition in Rust.
-fn numbers() -> [String; 8] {
-    [
-        format!("-DTOKEN_WORDS={TOKEN_WORDS}"),
-        format!("-DERROR_WORDS={ERROR_WORDS}"),
-        format!("-DNODE_WORDS={NODE_WORDS}"),
-        format!("-DINDEX_WORDS={INDEX_WORDS}"),
-        format!("-DSO_FAR={SO_FAR}"),
-        format!("-DMORE={}", outcome::MORE),
-        format!("-DWRONG_RULE={}", outcome::WRONG_RULE),
-        format!("-DMISMATCH={}", outcome::MISMATCH),
-    ]
+/// What `host.c` is told: where the library's header is, and a number that has its definition in Rust.
+fn given() -> [String; 3] {
+    let include = concat!(env!("CARGO_MANIFEST_DIR"), "/../kettleplume/include");
+    let so_far = format!("-DSO_FAR={SO_FAR}");
+    ["-I".to_string(), include.to_string(), so_far]
 }
 
 /// The real path of `rt`.
@@ -250,7 +244,8 @@ impl Toolchain {
     fn build(&self, source: &Path, archives: &[PathBuf], program: &Path) {
         let object = program.with_extension(format!("{}.o", process::id()));
         run(Command::new(self.bin("clang"))
-            .args(numbers())
+            .args(given())
+            .args(["-isystem", BARE])
             .args(["--target=x86_64-unknown-linux-gnu", "-O2", "-c", "-o"])
             .args([&object, source]));
         run(Command::new(self.bin("ld.lld"))
