@@ -3,15 +3,13 @@ use mathlib.Core.Path.{_≡_, refl, sym, ap, _∙_, subst}
 use mathlib.Core.Logic.{_⊎_, inl, inr, ⊎-elim}
 use mathlib.Core.Bool.{Bool, true, false, not, _&&_, _||_, cond}
 use mathlib.Core.List.{List, [], _∷_}
-use Prim.Native.Nat.{ℕ, suc, _≤_, _<_}
+use Prim.Native.Nat.{ℕ, _≤_, _<_}
 use native.Mathlib.Omega.{arith}
 use borrow.Author.Tests.{le-leb, lt-leb, ne-eqb}
 use lib.Dec.{T, leb, eqb, leb→le, eqb→eq}
-use lib.ListN.{take}
 use lib.Ieee.Fits.{and-l}
-use Rattle.token.specs.Keyword.{keywordOf}
 use Rattle.spans.specs.declared.Class.the-variants as classes
-use Rattle.spans.specs.Span.{isAlpha, isDigit, isInner, inClass, run}
+use Rattle.spans.specs.Span.{isAlpha, isDigit, isInner, inClass}
 use Rattle.rules.specs.Rules.{isTwo, isNamed}
 use Rattle.strings.specs.declared.Ended.{Ended}
 use Rattle.strings.specs.declared.Ended.the-variants.{Closed, Broken}
@@ -20,7 +18,7 @@ use Rattle.items.specs.declared.Sign.the-variants.{Newline, Blank, Hash, Quote,
 use Rattle.items.specs.declared.Item.{Item}
 use Rattle.items.specs.declared.Item.the-variants.{Mark, Wrong}
 use Rattle.items.specs.Items.{Class, letter, digit, sign, signOf, pickClass, classOf, pickItem, textItem, lone, pairAt, itemAs, itemOf, sizeOf, less}
-use Rattle.blackout.specs.Blackout.{Place, name, other, pickPlace, placeOf, mayBegin, alikeFrom}
+use Rattle.blackout.specs.Blackout.{Place, comment, name, string, other, placeOf, mayBegin, alikeFrom}
 
 -- ---- tests
 pub is-true : (b : Bool) → T b → b ≡ true
@@ -108,15 +106,18 @@ pair-cases P k l s w m n = at s
     at [] = alone (eqb k 0)
     at (x ∷ u) = two (eqb x 61)
 
+-- the first byte of an item stays, or becomes a letter
+first : (p : Place) (n b c : ℕ) (r : List ℕ) → T (mayBegin p n b c r) → (b ≡ c) ⊎ T (isAlpha c)
+first comment n b c r h = inl (eqb→eq b c h)
+first name n b c r h = inr (and-l (isAlpha c) _ h)
+first (string e) n b c r h = inl (eqb→eq b c h)
+first other n b c r h = inl (eqb→eq b c h)
+
 -- ---- by the rule
 module _ (rule : ℕ) where
   -- an item that is no name keeps its first byte
   pub begins : (z : Class) (b c : ℕ) (s r : List ℕ) → T (mayBegin (placeOf (itemAs rule z b s)) (sizeOf (itemAs rule z b s)) b c r) → (b ≡ c) ⊎ ((z ≡ letter) × T (isAlpha c))
-  begins letter b c s r h = go (eqb (keywordOf (b ∷ take (run (isNamed rule) s) s)) 25) h
-    where
-      go : (t : Bool) → T (mayBegin (pickPlace t name other) (suc (run (isNamed rule) s)) b c r) → (b ≡ c) ⊎ ((letter ≡ letter) × T (isAlpha c))
-      go true h = inr (refl, and-l (isAlpha c) (eqb (keywordOf (c ∷ take (run (isNamed rule) s) r)) 25) h)
-      go false h = inl (eqb→eq b c h)
+  begins letter b c s r h = ⊎-elim (λ e. inl e) (λ a. inr (refl, a)) (first (placeOf (itemAs rule letter b s)) (sizeOf (itemAs rule letter b s)) b c r h)
   begins digit b c s r h = inl (eqb→eq b c h)
   begins (sign Newline) b c s r h = inl (eqb→eq b c h)
   begins (sign Blank) b c s r h = inl (eqb→eq b c h)
