@@ -10,7 +10,7 @@ use borrow.Author.Tests.{eqb-true}
 use Rattle.records.specs.Table.{put, field, linked, nodeWidth}
 use Rattle.records.specs.declared.Node as rows
 use Rattle.records.proofs.Room.{lt-or-le}
-use Rattle.trees.specs.Trees.{Sort, Expression, isOperation, tightness, tightOf, Binds, Column, Unused, One, Maybe, Many, shapeOf, nextOf, rowAt, Chain, single, more, Child, Members, Fits, Formed, Forest}
+use Rattle.trees.specs.Trees.{Sort, Expression, isOperation, tightness, tightOf, Binds, Column, Unused, One, Maybe, Many, shapeOf, nextOf, rowAt, Chain, single, more, Child, Members, Fits, Formed, Next, Forest}
 
 -- rows lo up to hi are the same in both tables
 abbrev pub Agree : ℕ → ℕ → List ℕ → List ℕ → Type 0
@@ -137,7 +137,7 @@ module _ (T : List ℕ) where
       formed j p q (inl o) = formed-moved N N′ b j b (λ i k r t c. l .same i k (omega arith) (omega arith) c) (omega arith) (λ k c. l .same j k (omega arith) o (omega arith)) (x .formed j p o)
       formed j p q (inr o) = formed-moved N′ N′ u j b (λ i k r t c. refl) h (λ k c. refl) (y .formed j o q)
 
-      nexts : (j : ℕ) → b ≤ j → j < u′ → (j < u) ⊎ (u ≤ j) → (field nodeWidth 8 N′ j ≡ 0) ⊎ ((j + 1 < field nodeWidth 8 N′ j) × (field nodeWidth 8 N′ j ≤ u′))
+      nexts : (j : ℕ) → b ≤ j → j < u′ → (j < u) ⊎ (u ≤ j) → Next N′ u′ j
       nexts j p q (inl o) = let g = l .up in rw (l .same j 8 (omega arith) o (omega arith)) (⊎-elim (λ z. inl z) (λ z. let z1 = z .0 in let z2 = z .1 in inr (omega arith, omega arith)) (x .nexts j p o))
       nexts j p q (inr o) = y .nexts j o q
 
@@ -155,7 +155,7 @@ module _ (T : List ℕ) where
       formed j p q (inl o) = formed-moved N N′ b j b (λ i k r t c. m .later .same i k (omega arith) (omega arith) c) (omega arith) (λ k c. m .later .same j k (omega arith) o (omega arith)) (x .formed j p o)
       formed j p q (inr o) = let e : j ≡ u = omega arith in subst (λ (i : ℕ). Formed T N′ b i (rowAt N′ i)) (sym e) (made-one b u N N′ d f m)
 
-      nexts : (j : ℕ) → b ≤ j → j < u + 1 → (j < u) ⊎ (u ≤ j) → (field nodeWidth 8 N′ j ≡ 0) ⊎ ((j + 1 < field nodeWidth 8 N′ j) × (field nodeWidth 8 N′ j ≤ u + 1))
+      nexts : (j : ℕ) → b ≤ j → j < u + 1 → (j < u) ⊎ (u ≤ j) → Next N′ (u + 1) j
       nexts j p q (inl o) = rw (m .later .same j 8 (omega arith) o (omega arith)) (⊎-elim (λ z. inl z) (λ z. let z1 = z .0 in let z2 = z .1 in inr (omega arith, omega arith)) (x .nexts j p o))
       nexts j p q (inr o) = let e : j ≡ u = omega arith in inl (ap (λ (i : ℕ). field nodeWidth 8 N′ i) e ∙ m .next)
 
@@ -177,10 +177,10 @@ module _ (T : List ℕ) where
       formed j p q (inl o) = formed-moved N N′ b j b (λ i k r t c. l .others i k (λ w. omega arith) c) (omega arith) (λ k c. l .words j k c) (x .formed j p q)
       formed j p q (inr o) = let a = y .above in formed-moved N N′ prev j b (λ i k r t c. l .others i k (λ w. omega arith) c) (omega arith) (λ k c. l .words j k c) (y .apart .formed j o q)
 
-      kept : (j : ℕ) → b ≤ j → j < u → (j + 1 ≡ prev → ⊥) → (field nodeWidth 8 N′ j ≡ 0) ⊎ ((j + 1 < field nodeWidth 8 N′ j) × (field nodeWidth 8 N′ j ≤ u))
+      kept : (j : ℕ) → b ≤ j → j < u → (j + 1 ≡ prev → ⊥) → Next N′ u j
       kept j p q w = rw (l .others j 8 w (omega arith)) (x .nexts j p q)
 
-      nexts : (j : ℕ) → b ≤ j → j < u → (j + 1 < prev) ⊎ (prev ≤ j + 1) → (prev < j + 1) ⊎ (j + 1 ≤ prev) → (field nodeWidth 8 N′ j ≡ 0) ⊎ ((j + 1 < field nodeWidth 8 N′ j) × (field nodeWidth 8 N′ j ≤ u))
+      nexts : (j : ℕ) → b ≤ j → j < u → (j + 1 < prev) ⊎ (prev ≤ j + 1) → (prev < j + 1) ⊎ (j + 1 ≤ prev) → Next N′ u j
       nexts j p q (inl o) s = kept j p q (λ w. omega arith)
       nexts j p q (inr o) (inl s) = kept j p q (λ w. omega arith)
       nexts j p q (inr o) (inr s) =

@@ -223,10 +223,14 @@ pub record Formed (T N : List ℕ) (d j : ℕ) (r : rows.Node) : Type 0 where
   pub child4 : Fits N d j (shapeOf (r .kind) .child4) (r .child4)
   pub binds : Binds (isOperation (r .kind)) T N r
 
--- the rows from b up to u are well formed, and refer to none before them; a next is 0 or larger than its own reference, and made
+-- row j's next is 0, or larger than its own reference and among the first u
+abbrev pub Next : List ℕ → ℕ → ℕ → Type 0
+Next N u j = (field nodeWidth 8 N j ≡ 0) ⊎ ((j + 1 < field nodeWidth 8 N j) × (field nodeWidth 8 N j ≤ u))
+
+-- the rows from b up to u are well formed, and refer to none before them; their nexts are as they may be
 pub record Forest (T : List ℕ) (b u : ℕ) (N : List ℕ) : Type 0 where
   pub formed : (j : ℕ) → b ≤ j → j < u → Formed T N b j (rowAt N j)
-  pub nexts : (j : ℕ) → b ≤ j → j < u → (field nodeWidth 8 N j ≡ 0) ⊎ ((j + 1 < field nodeWidth 8 N j) × (field nodeWidth 8 N j ≤ u))
+  pub nexts : (j : ℕ) → b ≤ j → j < u → Next N u j
 
 -- a kept tree: the first n rows of the table are well formed, and `first` is 0 or the first of a list of statements
 pub record Tree (T : List ℕ) (n first : ℕ) (N : List ℕ) : Type 0 where
