@@ -31,7 +31,7 @@ KEPT = set()
 
 def snake(name):
     name = name.replace("-", "_")
-    return re.sub(r"(?<=[a-z0-9])([A-Z])", lambda m: "_" + m[1].lower(), name)
+    return re.sub(r"(?<=[A-Za-z0-9])([A-Z])", lambda m: "_" + m[1].lower(), name)
 
 
 def kind(name):
@@ -99,8 +99,35 @@ def replaced(text, new):
     return NAME.sub(lambda m: new.get(m[0], m[0]), text)
 
 
-def antt(line, new):
+IMPORT = re.compile(r"(?m)^(?:ghost |pub )*use ([^\s{};]+?)(?:\.\{([^}]*)\})?(?: as \S+?)?;?$")
+
+
+def own(path, crates):
+    parts = path.split(".")
+    return parts[0] == "Rattle" and len(parts) > 1 and parts[1] in crates
+
+
+def foreign(text, crates):
+    """The names that a file takes from a library."""
+    found = set()
+    for path, names in IMPORT.findall(text):
+        if not own(path, crates):
+            found |= {name.split(" as ")[0].strip() for name in names.split(",")} | set(path.split("."))
+    return found
+
+
+def imported(line, new, crates):
+    """An import: the names in it, not its path."""
+    m = IMPORT.match(line)
+    if not m or m[2] is None or not own(m[1], crates):
+        return line
+    return line[: m.start(2)] + replaced(m[2], new) + line[m.end(2) :]
+
+
+def antt(line, new, crates):
     """A line of antt: code by name; in a comment only what no English text has, a name in camel case or between backquotes."""
+    if line.startswith(("use ", "pub use ")):
+        return imported(line, new, crates)
     at = re.search(r"(?:^|(?<=\s))--(?=\s|$)", line)
     head, tail = (line[: at.start()], line[at.start() :]) if at else (line, "")
     parts = re.split(r'("(?:\\.|[^"\\])*")', head)
@@ -113,19 +140,36 @@ def comment(text, new):
     return NAME.sub(lambda m: new[m[0]] if m[0] in new and CAMEL.match(m[0]) else m[0], text)
 
 
-def rattle(text, new):
+def rattle(text, new, crates):
     """A file of src/: imports of clauses, and clauses."""
     lines, deep, out = text.split("\n"), 0, []
     for line in lines:
         if line.lstrip().startswith("//"):
             out.append(comment(line, new))
-        elif line.startswith("ghost use ") or deep or re.match(r"\s*(requires|ensures|ghost)\b", line):
-            if not line.startswith("ghost use "):
-                deep += line.count("{") - line.count("}")
+        elif line.lstrip().startswith("ghost use "):
+            out.append(imported(line, new, crates))
+        elif deep or re.match(r"\s*(requires|ensures|ghost)\b", line):
+            deep += line.count("{") - line.count("}")
             out.append(replaced(line, new))
         else:
             out.append(line)
     return "\n".join(out)
+
+
+def is_kind(name, to):
+    return name[0].isupper() and to.endswith("_kind")
+
+
+def kinds_of(path, text):
+    """The kinds that a file names by themselves, and its words for the module that it has them from."""
+    names, aliases = set(), set()
+    if os.path.basename(path) in ("Kind.antt", "Kinds.antt"):
+        names |= {m[1] for line in text.splitlines() if (m := NUMBER.match(line))}
+    for module, listed, alias in re.findall(r"(?m)^(?:ghost |pub )*use Rattle\.\w+\.specs\.(Kinds?)(?:\.\{([^}]*)\})?(?: as (\w+))?;?$", text):
+        names |= {name.split(" as ")[0].strip() for name in listed.split(",")} - {""}
+        if not listed:
+            aliases.add(alias or module)
+    return names, aliases
 
 
 def main(arguments):
@@ -136,10 +180,16 @@ def main(arguments):
         print("falls together: " + line)
     if found or "--check" in arguments:
         return 1 if found else 0
+    crates = set(os.listdir(os.path.join(root, "crates")))
     for path in files(root, ".antt", ".rt"):
         text = read(path)
-        to = rattle(text, new) if path.endswith(".rt") else "\n".join(antt(l, new) for l in text.split("\n"))
-        if to != text:
+        others = foreign(text, crates)
+        mine, aliases = kinds_of(path, text)
+        here = {name: to for name, to in new.items() if name not in others and (name in mine or not is_kind(name, to))}
+        for alias in aliases:
+            text = re.sub(rf"(?<![\w.]){alias}\.([A-Z]\w*)", lambda m: f"{alias}.{new.get(m[1], m[1])}", text)
+        to = rattle(text, here, crates) if path.endswith(".rt") else "\n".join(antt(l, here, crates) for l in text.split("\n"))
+        if to != read(path):
             with open(path, "w", encoding="utf-8") as f:
                 f.write(to)
     print(f"{len(new)} names")

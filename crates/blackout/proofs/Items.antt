@@ -12,17 +12,17 @@ use lib.Ieee.Fits.{and_l, and_r}
 use Rattle.token.specs.Keyword.{keyword_of}
 use Rattle.spans.specs.Span.{is_alpha, is_digit, is_inner, run}
 use Rattle.rules.specs.Rules.{is_named}
-use Rattle.items.specs.declared.Sign.TheVariants.{newline_kind, Blank, Hash, Quote, Single, Pair, Illegal}
+use Rattle.items.specs.declared.Sign.TheVariants.{Newline, Blank, Hash, Quote, Single, Pair, Illegal}
 use Rattle.items.specs.declared.Item.{Item}
 use Rattle.items.specs.declared.Item.TheVariants.{Comment, Name, Mark, Wrong}
-use Rattle.items.specs.Items.{class_kind, letter, digit, sign, sign_of, pick_class, class_of, pick_item, text_item, lone, pair_at, item_as, item_of, size_of, less, items}
+use Rattle.items.specs.Items.{Class, letter, digit, sign, sign_of, pick_class, class_of, pick_item, text_item, lone, pair_at, item_as, item_of, size_of, less, items}
 use Rattle.blackout.specs.Blackout.{Place, comment, name, other, pick_place, place_of, next, may, may_begin, alike_from, alike}
 use Rattle.blackout.proofs.Near.{is_true, is_letter, steady_is, steady_name, steady_inner, near_same, begins, near}
 use Rattle.blackout.proofs.Runs.{run_open, run_kept, take_kept, number_same}
 use Rattle.blackout.proofs.Strings.{text_same}
 
-not_letter : (z : class_kind) (b c : ℕ) → T (not (is_letter z)) → (b ≡ c) ⊎ ((z ≡ letter) × T (is_alpha c)) → b ≡ c
-not_letter z b c h x = ⊎_elim (λ e. e) (λ g. absurd (subst (λ (y : class_kind). T (not (is_letter y))) g.0 h)) x
+not_letter : (z : Class) (b c : ℕ) → T (not (is_letter z)) → (b ≡ c) ⊎ ((z ≡ letter) × T (is_alpha c)) → b ≡ c
+not_letter z b c h x = ⊎_elim (λ e. e) (λ g. absurd (subst (λ (y : Class). T (not (is_letter y))) g.0 h)) x
 
 -- ---- by the rule
 module _ (rule : ℕ) where
@@ -42,8 +42,8 @@ module _ (rule : ℕ) where
       go false e h = near_same (λ (x : ℕ). eqb x 61) (steady_is 61 (omega arith)) b c (near rule other b c s r (alone (eqb k 0) h))
 
   -- ---- an item
-  kept_item : (z : class_kind) (b c : ℕ) (r : List ℕ) → class_of b ≡ z → b ≡ c → item_as rule z b r ≡ item_of rule c r
-  kept_item z b c r e q = ap (λ (y : class_kind). item_as rule y b r) (sym e) ∙ ap (λ (x : ℕ). item_of rule x r) q
+  kept_item : (z : Class) (b c : ℕ) (r : List ℕ) → class_of b ≡ z → b ≡ c → item_as rule z b r ≡ item_of rule c r
+  kept_item z b c r e q = ap (λ (y : Class). item_as rule y b r) (sym e) ∙ ap (λ (x : ℕ). item_of rule x r) q
 
   -- a keyword is kept; any other name becomes one of the same length that is no keyword
   name_same : (b c : ℕ) (s r : List ℕ) → class_of b ≡ letter → (t : Bool) → eqb (keyword_of (b ∷ take (run (is_named rule) s) s)) 25 ≡ t
@@ -56,17 +56,17 @@ module _ (rule : ℕ) where
       let z : letter ≡ class_of c = sym (ap (λ (t : Bool). pick_class t letter (pick_class (is_digit c) digit (sign (sign_of c)))) (is_true (is_alpha c) (and_l (is_alpha c) _ h))) in
       ap (λ (x : ℕ). Name x (suc (run (is_named rule) s))) (i ∙ sym j)
       ∙ ap (λ (x : ℕ). Name (keyword_of (c ∷ take x r)) (suc x)) n
-      ∙ ap (λ (y : class_kind). item_as rule y c r) z
+      ∙ ap (λ (y : Class). item_as rule y c r) z
   name_same b c s r e false k h g =
       let n : run (is_named rule) s ≡ run (is_named rule) r = run_kept rule (is_named rule) (steady_name rule) s r (run (is_named rule) s) (omega arith) g in
       ap (λ (l : List ℕ). Name (keyword_of (b ∷ l)) (suc (run (is_named rule) s))) (take_kept rule s r (run (is_named rule) s) g)
       ∙ ap (λ (x : ℕ). Name (keyword_of (b ∷ take x r)) (suc x)) n
       ∙ kept_item letter b c r e (eqb→eq b c h)
 
-  item_as_lem : (z : class_kind) (b c : ℕ) (s r : List ℕ) → class_of b ≡ z → T (may_begin (place_of (item_as rule z b s)) (size_of (item_as rule z b s)) b c r) → T (alike_from rule (place_of (item_as rule z b s)) s r (less (size_of (item_as rule z b s)))) → item_as rule z b s ≡ item_of rule c r
+  item_as_lem : (z : Class) (b c : ℕ) (s r : List ℕ) → class_of b ≡ z → T (may_begin (place_of (item_as rule z b s)) (size_of (item_as rule z b s)) b c r) → T (alike_from rule (place_of (item_as rule z b s)) s r (less (size_of (item_as rule z b s)))) → item_as rule z b s ≡ item_of rule c r
   item_as_lem letter b c s r e h g = name_same b c s r e (eqb (keyword_of (b ∷ take (run (is_named rule) s) s)) 25) refl h g
   item_as_lem digit b c s r e h g = number_same rule b s r g ∙ kept_item digit b c r e (eqb→eq b c h)
-  item_as_lem (sign newline_kind) b c s r e h g = kept_item (sign newline_kind) b c r e (eqb→eq b c h)
+  item_as_lem (sign Newline) b c s r e h g = kept_item (sign Newline) b c r e (eqb→eq b c h)
   item_as_lem (sign Blank) b c s r e h g = kept_item (sign Blank) b c r e (eqb→eq b c h)
   item_as_lem (sign Hash) b c s r e h g =
       ap (λ (n : ℕ). Comment (suc n)) (run_open rule comment is_inner steady_inner (λ x. refl) (λ x y t. t) s r g) ∙ kept_item (sign Hash) b c r e (eqb→eq b c h)

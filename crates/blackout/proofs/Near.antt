@@ -8,16 +8,16 @@ use native.Mathlib.Omega.{arith}
 use borrow.Author.Tests.{le-leb, lt-leb, ne_eqb}
 use lib.Dec.{T, leb, eqb, leb→le, eqb→eq}
 use lib.Ieee.Fits.{and_l}
-use Rattle.spans.specs.declared.class_kind.TheVariants as classes
+use Rattle.spans.specs.declared.Class.TheVariants as classes
 use Rattle.spans.specs.Span.{is_alpha, is_digit, is_inner, in_class}
 use Rattle.rules.specs.Rules.{is_two, is_named}
 use Rattle.strings.specs.declared.Ended.{Ended}
 use Rattle.strings.specs.declared.Ended.TheVariants.{Closed, Broken}
 use Rattle.strings.specs.Strings.{read_of, begun}
-use Rattle.items.specs.declared.Sign.TheVariants.{newline_kind, Blank, Hash, Quote, Single, Pair, Illegal}
+use Rattle.items.specs.declared.Sign.TheVariants.{Newline, Blank, Hash, Quote, Single, Pair, Illegal}
 use Rattle.items.specs.declared.Item.{Item}
 use Rattle.items.specs.declared.Item.TheVariants.{Mark, Wrong}
-use Rattle.items.specs.Items.{class_kind, letter, digit, sign, sign_of, pick_class, class_of, pick_item, text_item, lone, pair_at, item_as, item_of, size_of, less}
+use Rattle.items.specs.Items.{Class, letter, digit, sign, sign_of, pick_class, class_of, pick_item, text_item, lone, pair_at, item_as, item_of, size_of, less}
 use Rattle.blackout.specs.Blackout.{Place, comment, name, string, other, place_of, may_begin, alike_from}
 
 -- ---- tests
@@ -77,7 +77,7 @@ pub near_same : (p : ℕ → Bool) → Steady p → (x y : ℕ) → Near x y →
 unfolding Near Steady
 near_same p h x y n = ⊎_elim (λ e. ap p e) (λ g. h x y g.0 g.1) n
 
-abbrev pub is_letter : class_kind → Bool
+abbrev pub is_letter : Class → Bool
 is_letter letter = true
 is_letter digit = false
 is_letter (sign s) = false
@@ -87,8 +87,8 @@ letter_name x e = go (is_alpha x) (is_digit x) e
   where
     go : (a b : Bool) → pick_class a letter (pick_class b digit (sign (sign_of x))) ≡ letter → T a
     go true b e = tt
-    go false true e = subst (λ (c : class_kind). T (not (is_letter c))) e tt
-    go false false e = subst (λ (c : class_kind). T (not (is_letter c))) e tt
+    go false true e = subst (λ (c : Class). T (not (is_letter c))) e tt
+    go false false e = subst (λ (c : Class). T (not (is_letter c))) e tt
 
 -- what holds of the three items that a pair can be
 pub pair_cases : (P : Item → Type 0) (k l : ℕ) (s : List ℕ) → P (Wrong 1 1 0) → P (Mark k 1 0) → P (Mark l 2 0) → P (pair_at k l s)
@@ -116,10 +116,10 @@ first other n b c r h = inl (eqb→eq b c h)
 -- ---- by the rule
 module _ (rule : ℕ) where
   -- an item that is no name keeps its first byte
-  pub begins : (z : class_kind) (b c : ℕ) (s r : List ℕ) → T (may_begin (place_of (item_as rule z b s)) (size_of (item_as rule z b s)) b c r) → (b ≡ c) ⊎ ((z ≡ letter) × T (is_alpha c))
+  pub begins : (z : Class) (b c : ℕ) (s r : List ℕ) → T (may_begin (place_of (item_as rule z b s)) (size_of (item_as rule z b s)) b c r) → (b ≡ c) ⊎ ((z ≡ letter) × T (is_alpha c))
   begins letter b c s r h = ⊎_elim (λ e. inl e) (λ a. inr (refl, a)) (first (place_of (item_as rule letter b s)) (size_of (item_as rule letter b s)) b c r h)
   begins digit b c s r h = inl (eqb→eq b c h)
-  begins (sign newline_kind) b c s r h = inl (eqb→eq b c h)
+  begins (sign Newline) b c s r h = inl (eqb→eq b c h)
   begins (sign Blank) b c s r h = inl (eqb→eq b c h)
   begins (sign Hash) b c s r h = inl (eqb→eq b c h)
   begins (sign Quote) b c s r h = inl (eqb→eq b c (go (read_of s begun) h))

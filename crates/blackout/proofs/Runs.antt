@@ -9,7 +9,7 @@ use lib.Dec.{T, eqb, eqb→eq}
 use lib.ListN.{length, take, drop}
 use lib.Ieee.Fits.{and_l, and_r}
 use Rattle.spans.specs.Span.{is_digit, count, run}
-use Rattle.numbers.specs.number_kind.{point_size, number_size}
+use Rattle.numbers.specs.Number.{point_size, number_size}
 use Rattle.items.specs.Items.{digit, item_as, item_of, size_of, less}
 use Rattle.blackout.specs.Blackout.{Place, other, place_of, next, may, may_begin, alike_from}
 use Rattle.blackout.proofs.Near.{is_true, Steady, steady_digit, steady_is, near_same, near}

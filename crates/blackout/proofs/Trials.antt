@@ -1,6 +1,6 @@
 -- How a pair of scripts is tried on the premise.
 use Prim.Native.Nat.{ℕ}
-use Prim.Native.string_kind.{string_kind}
+use Prim.Native.String.{String}
 use mathlib.Core.Bool.{Bool}
 use mathlib.Core.List.{List, [], ◌∷◌}
 use Rattle.text.proofs.Codes.{codes}
@@ -8,11 +8,11 @@ use Rattle.blackout.specs.Blackout.{blackout}
 
 -- a rule, two scripts, whether the premise holds, and whether both are read alike
 pub data Pair : Type 0 where
-  pair : ℕ → string_kind → string_kind → Bool → Bool → Pair
+  pair : ℕ → String → String → Bool → Bool → Pair
 
 -- a rule, two scripts, and whether the premise holds
 pub data Both : Type 0 where
-  both : ℕ → string_kind → string_kind → Bool → Both
+  both : ℕ → String → String → Bool → Both
 
 -- a pair without the reading
 abbrev pub unread : List Pair → List Both

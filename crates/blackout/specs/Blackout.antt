@@ -6,7 +6,7 @@ use Rattle.text.specs.Text.{is_text}
 use Rattle.spans.specs.Span.{is_alpha, is_inner}
 use Rattle.rules.specs.Rules.{is_named}
 use Rattle.items.specs.declared.Item.{Item}
-use Rattle.items.specs.declared.Item.TheVariants.{Space, Comment, Name, Text, number_kind, Mark, Wrong}
+use Rattle.items.specs.declared.Item.TheVariants.{Space, Comment, Name, Text, Number, Mark, Wrong}
 use Rattle.items.specs.Items.{item_of, size_of, less}
 
 -- ---- the second differs only in comments, in strings that the first closes properly, and in names
@@ -28,7 +28,7 @@ place_of Space = other
 place_of (Comment n) = comment
 place_of (Name k n) = pick_place (eqb k identifier_kind) name other
 place_of (Text n m l) = string false
-place_of (number_kind x) = other
+place_of (Number x) = other
 place_of (Mark k n m) = other
 place_of (Wrong e n m) = other
 

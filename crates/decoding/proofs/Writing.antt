@@ -5,7 +5,7 @@ use Prim.Native.Nat.{ℕ, suc, ◌+◌, ◌≤◌, ◌<◌}
 use native.Mathlib.Numerals.{add-one}
 use native.Mathlib.Omega.{arith}
 use lib.ListN.{length, take, drop, set, length-append, length-set, take-append-drop}
-use lib.Seq.{length-take-le, append_snoc, take-suc-set, drop-set-lt, drop_drop}
+use lib.Seq.{length-take-le, append_snoc, take-suc-set, drop-set-lt, drop-drop}
 
 -- n bytes of `now` are written, which with `left` are the whole, and the others are as they were at first
 abbrev pub Written : List ℕ → List ℕ → List ℕ → ℕ → List ℕ → Type 0
@@ -24,7 +24,7 @@ module _ (whole first now : List ℕ) (n a : ℕ) (left : List ℕ) (w : Written
   put h = (
     length-set now n a ∙ w.0,
     rw length-set (omega arith),
-    drop-set-lt (n + 1) now n a (omega arith) ∙ sym (drop_drop 1 n now) ∙ ap (drop 1) w.2 ∙ drop_drop 1 n first,
+    drop-set-lt (n + 1) now n a (omega arith) ∙ sym (drop-drop 1 n now) ∙ ap (drop 1) w.2 ∙ drop-drop 1 n first,
     (let e : take (n + 1) (set now n a) ++ left ≡ take n now ++ (a ∷ []) ++ left = rw (add-one, take-suc-set now n a h) in e) ∙ append_snoc (take n now) a left ∙ w.3,
   )
 

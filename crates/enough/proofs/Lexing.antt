@@ -24,9 +24,9 @@ use Rattle.strings.specs.declared.Ended.{Ended}
 use Rattle.strings.specs.declared.Ended.TheVariants.{Closed, Broken}
 use Rattle.strings.specs.Strings.{read_of, begun}
 use Rattle.items.specs.declared.Sign.{Sign}
-use Rattle.items.specs.declared.Sign.TheVariants.{newline_kind, Blank, Hash, Quote, Single, Pair, Illegal}
+use Rattle.items.specs.declared.Sign.TheVariants.{Newline, Blank, Hash, Quote, Single, Pair, Illegal}
 use Rattle.items.specs.declared.Item.{Item}
-use Rattle.items.specs.declared.Item.TheVariants.{Space, Comment, Name, Text, number_kind, Mark, Wrong}
+use Rattle.items.specs.declared.Item.TheVariants.{Space, Comment, Name, Text, Number, Mark, Wrong}
 use Rattle.items.specs.Items.{Row, find, pick_sign, signs, sign_of, letter, digit, sign, pick_class, pick_item, text_item, lone, pair_at, item_as, item_of, size_of, less, items}
 use Rattle.items.proofs.Bounds.{item_bounded}
 use Rattle.lexer.specs.Lex.{State, Result, Onward, go, stop, pick_onward, kept, and_then, passed, no_value, token_at, with_token, with_error, token, error, step, closing, finish, emit, fresh, refusal, lexed, lexed_of}
@@ -42,7 +42,7 @@ kind_of Space = 0
 kind_of (Comment n) = 0
 kind_of (Name k n) = k
 kind_of (Text n m l) = 26
-kind_of (number_kind x) = 27
+kind_of (Number x) = 27
 kind_of (Mark k n m) = k
 kind_of (Wrong e n m) = 0
 
@@ -51,7 +51,7 @@ Pays x = allows errors (kind_of x) ≤ 2 * size_of x
 
 -- a mark of one byte allows two
 abbrev fit : Sign → Bool
-fit newline_kind = true
+fit Newline = true
 fit Blank = true
 fit Hash = true
 fit Quote = true
@@ -95,7 +95,7 @@ name_pays b zero s = subst (λ (k : ℕ). allows errors k ≤ 2) (letter_kind b)
 name_pays b (suc r) s = let h = allows_errors (keyword_of (b ∷ take (suc r) s)) in omega arith
 
 as_pays : (rule : ℕ) (z : Sign) (b : ℕ) (s : List ℕ) → T (fit z) → Pays (item_as rule (sign z) b s)
-as_pays rule newline_kind b s t = omega arith
+as_pays rule Newline b s t = omega arith
 as_pays rule Blank b s t = omega arith
 as_pays rule Hash b s t = omega arith
 as_pays rule Quote b s t = text_pays (read_of s begun)
@@ -182,7 +182,7 @@ module _ (n token_room error_room : ℕ) where
   inv_step (Comment k) t z s f = inv_passed k t f
   inv_step (Name kind k) t z s f = inv_token 0 0 kind k 0 _ t f (omega arith)
   inv_step (Text k m l) t z s f = inv_token 0 0 26 k m _ t f (omega arith)
-  inv_step (number_kind x) t z s f = inv_cut x.size t x.cut _ (inv_token 0 0 27 x.size 0 _ t f (omega arith))
+  inv_step (Number x) t z s f = inv_cut x.size t x.cut _ (inv_token 0 0 27 x.size 0 _ t f (omega arith))
   inv_step (Mark kind k m) t z s f = inv_token 0 0 kind k m _ t f (omega arith)
   inv_step (Wrong e k m) t z s f = inv_error e k m t f s
 

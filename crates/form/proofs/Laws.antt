@@ -5,7 +5,7 @@ use Prim.Native.Nat.{ℕ, suc, ◌+◌, ◌*◌, ◌≤◌, ◌<◌}
 use native.Mathlib.Numerals.{add-one}
 use native.Mathlib.Omega.{arith}
 use lib.ListN.{length, get_or, take, drop, set, length-append, length-drop}
-use lib.Seq.{take_all, take-suc, take_at, take-append-le, drop-append-add, drop_drop, length-take-le, set_split}
+use lib.Seq.{take_all, take-suc, take_at, take-append-le, drop-append-add, drop-drop, length-take-le, set_split}
 use Rattle.io.specs.Digits.{last_digits, IsDigitCount}
 use Rattle.form.specs.Text.{Holds, field, fields, line_of, lines_of}
 use Rattle.form.proofs.Decimal.{decimal_is}
@@ -36,7 +36,7 @@ push_in t B u at b l h =
     let f : u ≡ t ++ drop at B = h.bytes ∙ ap (λ (x : List ℕ). x ++ drop at B) (take_all at t (omega arith)) in
     let g : take at u ≡ t = ap (take at) f ∙ take_at t (drop at B) at (sym e) in
     let d : drop (suc at) u ≡ drop (at + 1) B =
-    ap (λ (k : ℕ). drop k u) (sym (add-one at)) ∙ ap (drop (at + 1)) f ∙ ap (λ (k : ℕ). drop (k + 1) (t ++ drop at B)) e ∙ drop-append-add t (drop at B) 1 ∙ drop_drop 1 at B
+    ap (λ (k : ℕ). drop k u) (sym (add-one at)) ∙ ap (drop (at + 1)) f ∙ ap (λ (k : ℕ). drop (k + 1) (t ++ drop at B)) e ∙ drop-append-add t (drop at B) 1 ∙ drop-drop 1 at B
     in
     record {
       count = omega arith;

@@ -2,5 +2,5 @@ pub mod Steps
 pub mod Begins
 pub mod Starts
 pub mod Prefix
-pub mod else_kind
+pub mod Else
 pub mod CallTurns

@@ -17,10 +17,10 @@ use Rattle.strings.specs.declared.Ended.{Ended}
 use Rattle.strings.specs.declared.Ended.TheVariants.{Closed, Broken}
 use Rattle.strings.specs.Strings.{read_of, begun}
 use Rattle.strings.proofs.Sizes.{Sized, sized}
-use Rattle.items.specs.declared.Sign.TheVariants.{newline_kind, Blank, Hash, Quote, Single, Pair, Illegal}
+use Rattle.items.specs.declared.Sign.TheVariants.{Newline, Blank, Hash, Quote, Single, Pair, Illegal}
 use Rattle.items.specs.declared.Item.{Item}
 use Rattle.items.specs.declared.Item.TheVariants.{Mark, Wrong}
-use Rattle.items.specs.Items.{class_kind, letter, digit, sign, class_of, pick_item, text_item, lone, pair_at, item_as, item_of, item_at, size_of, lines_of, decoded_of}
+use Rattle.items.specs.Items.{Class, letter, digit, sign, class_of, pick_item, text_item, lone, pair_at, item_as, item_of, item_at, size_of, lines_of, decoded_of}
 
 abbrev pub Bounded : ℕ → Item → Type 0
 Bounded k x = (1 ≤ size_of x) × (size_of x ≤ k) × (lines_of x ≤ size_of x) × (decoded_of x ≤ size_of x)
@@ -40,10 +40,10 @@ text_bounded : (k : ℕ) (x : Ended) → Sized k x → Bounded (suc k) (text_ite
 text_bounded k (Closed n m l) h = omega arith
 text_bounded k (Broken n m) h = omega arith
 
-as_bounded : (rule : ℕ) (z : class_kind) (b : ℕ) (s : List ℕ) → Bounded (suc (length s)) (item_as rule z b s)
+as_bounded : (rule : ℕ) (z : Class) (b : ℕ) (s : List ℕ) → Bounded (suc (length s)) (item_as rule z b s)
 as_bounded rule letter b s = let h = run_le (is_named rule) s in omega arith
 as_bounded rule digit b s = let h = number_le s in omega arith
-as_bounded rule (sign newline_kind) b s = omega arith
+as_bounded rule (sign Newline) b s = omega arith
 as_bounded rule (sign Blank) b s = omega arith
 as_bounded rule (sign Hash) b s = let h = run_le is_inner s in omega arith
 as_bounded rule (sign Quote) b s = text_bounded (length s) (read_of s begun) (sized s)

@@ -12,7 +12,7 @@ use Rattle.token.specs.Kind.{eof_kind}
 use Rattle.token.specs.Keyword.{keyword_of, part}
 use Rattle.spans.specs.Span.{is_alpha, is_digit, is_inner, run}
 use Rattle.rules.specs.Rules.{is_named}
-use Rattle.numbers.specs.number_kind.{number_at}
+use Rattle.numbers.specs.Number.{number_at}
 use Rattle.strings.specs.declared.Ended.{Ended}
 use Rattle.strings.specs.declared.Ended.TheVariants.{Closed, Broken}
 use Rattle.records.specs.Messages.{lone_bang, unclosed_string}

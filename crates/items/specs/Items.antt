@@ -5,15 +5,15 @@ use Rattle.token.specs.Keyword.{keyword_of}
 use Rattle.spans.specs.Span.{is_alpha, is_digit, is_inner, run}
 use Rattle.rules.specs.Rules.{is_named, stops_at}
 use Rattle.numbers.specs.declared.Numeral.{Numeral}
-use Rattle.numbers.specs.number_kind.{number_of}
+use Rattle.numbers.specs.Number.{number_of}
 use Rattle.strings.specs.declared.Ended.{Ended}
 use Rattle.strings.specs.declared.Ended.TheVariants.{Closed, Broken}
 use Rattle.strings.specs.Strings.{read_of, begun}
 use Rattle.records.specs.Messages.{lone_bang, illegal_character, unclosed_string}
 use Rattle.items.specs.declared.Sign.{Sign}
-use Rattle.items.specs.declared.Sign.TheVariants.{newline_kind, Blank, Hash, Quote, Single, Pair, Illegal}
+use Rattle.items.specs.declared.Sign.TheVariants.{Newline, Blank, Hash, Quote, Single, Pair, Illegal}
 use Rattle.items.specs.declared.Item.{Item}
-use Rattle.items.specs.declared.Item.TheVariants.{Space, Comment, Name, Text, number_kind, Mark, Wrong}
+use Rattle.items.specs.declared.Item.TheVariants.{Space, Comment, Name, Text, Number, Mark, Wrong}
 
 -- ---- what a byte is that is no letter and no digit
 -- a byte, and what it is
@@ -34,7 +34,7 @@ find b (x ∷ xs) = pick_sign (eqb b x.byte) x.is (find b xs)
 -- the marks with their kinds; of a mark that may have = after it the kind alone (EOF's for !, which is no token then) and the kind with it
 abbrev pub signs : List Row
 signs =
-    record { byte = 10; is = newline_kind } ∷  -- newline
+    record { byte = 10; is = Newline } ∷  -- newline
     record { byte = 32; is = Blank } ∷  -- space
     record { byte = 9; is = Blank } ∷  -- tab
     record { byte = 13; is = Blank } ∷  -- carriage return
@@ -67,18 +67,18 @@ unfoldable pub sign_of : ℕ → Sign
 sign_of b = find b signs
 
 -- ---- the class of a first byte
-pub data class_kind : Type 0 where
-  letter : class_kind
-  digit : class_kind
-  sign : Sign → class_kind
+pub data Class : Type 0 where
+  letter : Class
+  digit : Class
+  sign : Sign → Class
 
 -- the first where the test holds, else the second
-abbrev pub pick_class : Bool → class_kind → class_kind → class_kind
+abbrev pub pick_class : Bool → Class → Class → Class
 pick_class true a b = a
 pick_class false a b = b
 
 -- a letter begins a name, a digit a number; every other byte is a sign
-abbrev pub class_of : ℕ → class_kind
+abbrev pub class_of : ℕ → Class
 class_of b = pick_class (is_alpha b) letter (pick_class (is_digit b) digit (sign (sign_of b)))
 
 -- ---- items
@@ -114,13 +114,13 @@ module _ (rule : ℕ) where
 
   -- rule 4: a number, and whether lexing stops at it
   abbrev pub number_item : Numeral → Item
-  number_item x = number_kind (record { size = x.size; whole = x.whole; places = x.places; cut = stops_at rule x.cut })
+  number_item x = Number (record { size = x.size; whole = x.whole; places = x.places; cut = stops_at rule x.cut })
 
   -- the item whose first byte is b, of that class, with s after it
-  abbrev pub item_as : class_kind → ℕ → List ℕ → Item
+  abbrev pub item_as : Class → ℕ → List ℕ → Item
   item_as letter b s = name_of b s
   item_as digit b s = number_item (number_of b s)
-  item_as (sign newline_kind) b s = Mark kinds.newline_kind 1 1
+  item_as (sign Newline) b s = Mark kinds.newline_kind 1 1
   item_as (sign Blank) b s = Space
   item_as (sign Hash) b s = Comment (suc (run is_inner s))
   item_as (sign Quote) b s = text_item (read_of s begun)
@@ -143,7 +143,7 @@ size_of Space = 1
 size_of (Comment n) = n
 size_of (Name k n) = n
 size_of (Text n m l) = n
-size_of (number_kind x) = x.size
+size_of (Number x) = x.size
 size_of (Mark k n m) = n
 size_of (Wrong e n m) = n
 
@@ -153,7 +153,7 @@ lines_of Space = 0
 lines_of (Comment n) = 0
 lines_of (Name k n) = 0
 lines_of (Text n m l) = m
-lines_of (number_kind x) = 0
+lines_of (Number x) = 0
 lines_of (Mark k n m) = m
 lines_of (Wrong e n m) = m
 
@@ -163,7 +163,7 @@ decoded_of Space = 0
 decoded_of (Comment n) = 0
 decoded_of (Name k n) = 0
 decoded_of (Text n m l) = l
-decoded_of (number_kind x) = 0
+decoded_of (Number x) = 0
 decoded_of (Mark k n m) = 0
 decoded_of (Wrong e n m) = 0
 

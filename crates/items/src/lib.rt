@@ -1,7 +1,7 @@
 // What stands at a place of the source: bytes to items, by the classes and marks of lexer.rs.
 ghost use Rattle.std.specs.Prelude.{◌≡◌, ◌+◌, ◌<◌, length, drop};
 ghost use Rattle.strings.specs.Strings.{read_of, begun};
-ghost use Rattle.numbers.specs.number_kind.{number_at};
+ghost use Rattle.numbers.specs.Number.{number_at};
 ghost use Rattle.items.specs.Items.{sign_of, name_at, number_item, text_item, pair_at, item_at};
 
 use numbers::Numeral;

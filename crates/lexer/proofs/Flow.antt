@@ -14,7 +14,7 @@ use Rattle.lexer.specs.declared.Scanned.{Scanned}
 use Rattle.lexer.specs.declared.Next.{Next}
 use Rattle.lexer.specs.declared.Next.TheVariants.{On, Stop}
 use Rattle.items.specs.declared.Item.{Item}
-use Rattle.items.specs.declared.Item.TheVariants.{Space, Comment, Name, Text, number_kind, Mark, Wrong}
+use Rattle.items.specs.declared.Item.TheVariants.{Space, Comment, Name, Text, Number, Mark, Wrong}
 use Rattle.items.specs.Items.{size_of, lines_of}
 use Rattle.lexer.specs.Lex.{no_value}
 use Rattle.lexer.specs.Steps.{pick_next, Did, pick_did, on_in, emit_next, emit_table, emit_in, step_in, close_in, ended, Done, then_in, eof_in, finish_in, number_words, number_in, Does, Ends}
@@ -115,7 +115,7 @@ step_moved Space l t e = (refl, sym (add-zero l.line))
 step_moved (Comment n) l t e = (refl, sym (add-zero l.line))
 step_moved (Name k n) l t e = emit_moved l k n 0 t
 step_moved (Text n m d) l t e = emit_moved l kinds.string_kind n m t
-step_moved (number_kind x) l t e =
+step_moved (Number x) l t e =
     either x.cut l x.size 0 (record { next = Stop outcomes.number_at_end; tokens = t; errors = e }) (emit_in l kinds.number_kind x.size 0 (number_words l x.size x.whole x.places) t e) tt (emit_moved l kinds.number_kind x.size 0 t)
 step_moved (Mark k n m) l t e = emit_moved l k n m t
 step_moved (Wrong message n m) l t e = picked (ltb l.errors (room error_width e)) l _ n m outcomes.no_error_room (refl, refl)

@@ -8,7 +8,7 @@ use native.Mathlib.Omega.{arith}
 use borrow.Author.Tests.{ltb-true, ltb-false, lt-ltb, le-ltb}
 use lib.Dec.{ltb, eqb}
 use lib.ListN.{length, take, drop, take-append-drop}
-use lib.Seq.{length-take-le, drop_drop}
+use lib.Seq.{length-take-le, drop-drop}
 use Rattle.token.specs.Kind as kinds
 use Rattle.literal.specs.declared.Words.{Words}
 use Rattle.records.specs.Table.{room, put, token_width, error_width}
@@ -23,7 +23,7 @@ use Rattle.lexer.specs.declared.Scanned.{Scanned}
 use Rattle.lexer.specs.declared.Next.{Next}
 use Rattle.lexer.specs.declared.Next.TheVariants.{On, Stop}
 use Rattle.items.specs.declared.Item.{Item}
-use Rattle.items.specs.declared.Item.TheVariants.{Space, Comment, Name, Text, number_kind, Mark, Wrong}
+use Rattle.items.specs.declared.Item.TheVariants.{Space, Comment, Name, Text, Number, Mark, Wrong}
 use Rattle.items.specs.Items.{items}
 use Rattle.lexer.specs.Lex.{State, Result, Onward, go, stop, pick_onward, kept, and_then, no_value, token, error, step, closing, finish, emit, lexed, refusal, pick_result, lexed_of, Lexing}
 use Rattle.lexer.specs.Steps.{pick_next, Did, pick_did, on_in, emit_next, emit_table, emit_in, error_next, error_table, token_more, token_of, error_more, error_of, string_words, number_words, step_in, close_in, ended, Done, then_in, eof_in, finish_in, scan_in, start, Ends}
@@ -45,9 +45,9 @@ grown_put w u t n ws long h g =
       rest =
           put_drop w t n ws long h
           ∙ ap (λ (k : ℕ). drop k t) e
-          ∙ sym (drop_drop w (w * n) t)
+          ∙ sym (drop-drop w (w * n) t)
           ∙ ap (drop w) g.rest
-          ∙ drop_drop w (w * n) u
+          ∙ drop-drop w (w * n) u
           ∙ ap (λ (k : ℕ). drop k u) (sym e);
     }
 
@@ -165,7 +165,7 @@ module _ (u f : List ℕ) where
     step_agrees (Comment n) = (refl, g)
     step_agrees (Name k n) = token_agrees k n 0 no_value
     step_agrees (Text n m d) = token_agrees kinds.string_kind n m (string_words l n d)
-    step_agrees (number_kind x) =
+    step_agrees (Number x) =
         either x.cut (stop outcomes.number_at_end) _ (record { next = Stop outcomes.number_at_end; tokens = t; errors = e }) (emit_in l kinds.number_kind x.size 0 (number_words l x.size x.whole x.places) t e)
         (refl, refl, refl) (token_agrees kinds.number_kind x.size 0 (number_words l x.size x.whole x.places))
     step_agrees (Mark k n m) = token_agrees k n m no_value

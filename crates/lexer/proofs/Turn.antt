@@ -4,7 +4,7 @@ use mathlib.Core.List.{List, [], ◌∷◌}
 use Prim.Native.Nat.{ℕ, zero, suc, ◌+◌, ◌≤◌, ◌<◌}
 use native.Mathlib.Omega.{arith}
 use lib.ListN.{length, drop, drop_of_length-le}
-use lib.Seq.{drop-cons, drop_drop, drop-nil}
+use lib.Seq.{drop-cons, drop-drop, drop-nil}
 use Rattle.lexer.specs.declared.Lexer.{Lexer}
 use Rattle.lexer.specs.declared.Next.{Next}
 use Rattle.lexer.specs.declared.Next.TheVariants.{On, Stop}
@@ -29,7 +29,7 @@ turn rule s i x h e p =
     first
     ∙ ap (λ (y : Item). y ∷ items rule (drop (suc i) s) (less (size_of y))) (sym e)
     ∙ ap (λ (l : List Item). x ∷ l)
-    (skip rule (drop (suc i) s) (less (size_of x)) ∙ ap (λ (l : List ℕ). items rule l 0) (drop_drop (less (size_of x)) (suc i) s ∙ ap (λ (m : ℕ). drop m s) place))
+    (skip rule (drop (suc i) s) (less (size_of x)) ∙ ap (λ (l : List ℕ). items rule l 0) (drop-drop (less (size_of x)) (suc i) s ∙ ap (λ (m : ℕ). drop m s) place))
 
 pub end : (rule : ℕ) (s : List ℕ) (i : ℕ) → length s ≤ i → items rule (drop i s) 0 ≡ []
 end rule s i h = rw (drop_of_length-le s h)

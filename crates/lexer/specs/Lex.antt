@@ -13,7 +13,7 @@ use Rattle.records.specs.Outcomes.{ended, number_at_end, not_text, too_long, no_
 use Rattle.rules.specs.Rules.{known}
 use Rattle.lexer.specs.declared.Scanned.{Scanned}
 use Rattle.items.specs.declared.Item.{Item}
-use Rattle.items.specs.declared.Item.TheVariants.{Space, Comment, Name, Text, number_kind, Mark, Wrong}
+use Rattle.items.specs.declared.Item.TheVariants.{Space, Comment, Name, Text, Number, Mark, Wrong}
 use Rattle.items.specs.Items.{items}
 
 -- where the lexing stands: the next byte, the line, how many tokens, the last one's kind and all their words, how many errors and all their words
@@ -108,7 +108,7 @@ module _ (token_room error_room : ℕ) where
   step (Comment n) t = go (passed n t)
   step (Name k n) t = token k n 0 no_value t
   step (Text n m l) t = token kinds.string_kind n m (words_of (literals.Text (span_of n t) l)) t
-  step (number_kind x) t = pick_onward x.cut (stop number_at_end) (token kinds.number_kind x.size 0 (words_of (value_of x.whole x.places (span_of x.size t))) t)
+  step (Number x) t = pick_onward x.cut (stop number_at_end) (token kinds.number_kind x.size 0 (words_of (value_of x.whole x.places (span_of x.size t))) t)
   step (Mark k n m) t = token k n m no_value t
   step (Wrong e n m) t = error e n m t
 

@@ -17,7 +17,7 @@ use Rattle.lexer.specs.declared.Scanned.{Scanned}
 use Rattle.lexer.specs.declared.Next.{Next}
 use Rattle.lexer.specs.declared.Next.TheVariants.{On, Stop}
 use Rattle.items.specs.declared.Item.{Item}
-use Rattle.items.specs.declared.Item.TheVariants.{Space, Comment, Name, Text, number_kind, Mark, Wrong}
+use Rattle.items.specs.declared.Item.TheVariants.{Space, Comment, Name, Text, Number, Mark, Wrong}
 use Rattle.items.specs.Items.{size_of, lines_of, decoded_of}
 use Rattle.lexer.specs.Lex.{no_value, token_at}
 
@@ -105,7 +105,7 @@ step_in Space l t e = on_in (advanced l 1) t e
 step_in (Comment n) l t e = on_in (advanced l n) t e
 step_in (Name k n) l t e = emit_in l k n 0 no_value t e
 step_in (Text n m d) l t e = emit_in l kinds.string_kind n m (string_words l n d) t e
-step_in (number_kind x) l t e = number_in x l t e
+step_in (Number x) l t e = number_in x l t e
 step_in (Mark k n m) l t e = emit_in l k n m no_value t e
 step_in (Wrong message n m) l t e = record { next = error_next l n m e; tokens = t; errors = error_table l message m e }
 

@@ -8,14 +8,14 @@ use lib.Dec.{T, ltb, eqb}
 use lib.ListN.{length}
 use Rattle.rules.specs.Rules.{two, known, is_two}
 use Rattle.text.specs.Text.{is_text}
-use Rattle.numbers.specs.number_kind.{number_of}
+use Rattle.numbers.specs.Number.{number_of}
 use Rattle.strings.specs.declared.Ended.{Ended}
 use Rattle.strings.specs.declared.Ended.TheVariants.{Closed, Broken}
 use Rattle.strings.specs.Strings.{read_of, begun}
-use Rattle.items.specs.declared.Sign.TheVariants.{newline_kind, Blank, Hash, Quote, Single, Pair, Illegal}
+use Rattle.items.specs.declared.Sign.TheVariants.{Newline, Blank, Hash, Quote, Single, Pair, Illegal}
 use Rattle.items.specs.declared.Item.{Item}
-use Rattle.items.specs.declared.Item.TheVariants.{Space, Comment, Name, Text, number_kind, Mark, Wrong}
-use Rattle.items.specs.Items.{class_kind, letter, digit, sign, class_of, pick_item, text_item, lone, pair_at, item_as, item_of, size_of, less, items}
+use Rattle.items.specs.declared.Item.TheVariants.{Space, Comment, Name, Text, Number, Mark, Wrong}
+use Rattle.items.specs.Items.{Class, letter, digit, sign, class_of, pick_item, text_item, lone, pair_at, item_as, item_of, size_of, less, items}
 use Rattle.lexer.specs.Lex.{State, Result, Onward, go, stop, pick_onward, kept, and_then, no_value, token, step, closing, emit, fresh, refusal, pick_result, lexed, lexed_of}
 use Rattle.lexing.specs.Ends.{Lexed, ended, cut, token_room_held, error_room_held, Ends, wrong_rule_case, too_long_case, not_text_case, lexes}
 
@@ -26,7 +26,7 @@ module _ (rule : ℕ) where
   Sound (Comment n) = Unit {0}
   Sound (Name k n) = Unit {0}
   Sound (Text n m l) = Unit {0}
-  Sound (number_kind x) = x.cut ≡ true → is_two rule ≡ false
+  Sound (Number x) = x.cut ≡ true → is_two rule ≡ false
   Sound (Mark k n m) = Unit {0}
   Sound (Wrong e n m) = Unit {0}
 
@@ -54,10 +54,10 @@ module _ (rule : ℕ) where
   number_sound true c h = sym h
   number_sound false c h = refl
 
-  item_sound : (z : class_kind) (b : ℕ) (s : List ℕ) → Sound (item_as rule z b s)
+  item_sound : (z : Class) (b : ℕ) (s : List ℕ) → Sound (item_as rule z b s)
   item_sound letter b s = tt
   item_sound digit b s = number_sound (is_two rule) (number_of b s).cut
-  item_sound (sign newline_kind) b s = tt
+  item_sound (sign Newline) b s = tt
   item_sound (sign Blank) b s = tt
   item_sound (sign Hash) b s = tt
   item_sound (sign Quote) b s = text_sound (read_of s begun)
@@ -96,7 +96,7 @@ module _ (rule : ℕ) where
     step_stops (Comment n) h t = tt
     step_stops (Name k n) h t = token_stops k n 0 _ t
     step_stops (Text n m l) h t = token_stops 26 n m _ t
-    step_stops (number_kind x) h t = pick_stops x.cut _ _ (λ c. cut (h c)) (token_stops 27 x.size 0 _ t)
+    step_stops (Number x) h t = pick_stops x.cut _ _ (λ c. cut (h c)) (token_stops 27 x.size 0 _ t)
     step_stops (Mark k n m) h t = token_stops k n m _ t
     step_stops (Wrong e n m) h t = pick_stops (ltb t.error_count b) _ _ (λ _. tt) error_room_held
 

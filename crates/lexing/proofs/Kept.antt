@@ -8,7 +8,7 @@ use native.Mathlib.Omega.{arith}
 use borrow.Author.Tests.{ltb-true}
 use lib.Dec.{ltb, eqb, lit≤}
 use lib.ListN.{length, take, drop}
-use lib.Seq.{drop_drop}
+use lib.Seq.{drop-drop}
 use Rattle.literal.specs.declared.Words.{Words}
 use Rattle.literal.specs.declared.Literal.TheVariants as literals
 use Rattle.literal.specs.Value.{value_of, words_of}
@@ -17,7 +17,7 @@ use Rattle.records.specs.declared.InterpreterError.{InterpreterError}
 use Rattle.records.specs.Words.{token_words, error_words}
 use Rattle.records.specs.Rows.{Rows, none, more}
 use Rattle.items.specs.declared.Item.{Item}
-use Rattle.items.specs.declared.Item.TheVariants.{Space, Comment, Name, Text, number_kind, Mark, Wrong}
+use Rattle.items.specs.declared.Item.TheVariants.{Space, Comment, Name, Text, Number, Mark, Wrong}
 use Rattle.items.specs.Items.{item_of, size_of, lines_of, less, items}
 use Rattle.items.proofs.Bounds.{item_bounded}
 use Rattle.lexer.specs.Lex.{State, Result, Onward, go, stop, pick_onward, kept, and_then, passed, no_value, token_at, with_token, with_error, span_of, token, error, step, closing, finish, emit, fresh, lexed}
@@ -176,7 +176,7 @@ module _ (s : List ℕ) (token_room error_room : ℕ) where
   fine_step (Comment k) t z f le = fine_passed 0 k t f le
   fine_step (Name kind k) t z f le = fine_token 0 0 kind k 0 no_value t f z.0 z.2 le (omega arith)
   fine_step (Text k m l) t z f le = fine_token 0 0 26 k m (words_of (literals.Text (span_of k t) l)) t f z.0 z.2 le (omega arith)
-  fine_step (number_kind x) t z f le = at x.cut
+  fine_step (Number x) t z f le = at x.cut
     where
       at : (b : Bool) → Next 0 x.size t (pick_onward b (stop 2) (token token_room error_room 27 x.size 0 (words_of (value_of x.whole x.places (span_of x.size t))) t))
       at true = λ h. omega arith
@@ -258,7 +258,7 @@ module _ (s : List ℕ) (token_room error_room : ℕ) where
   emit_keeps [] t z e f = finish_keeps t (omega arith) f
   emit_keeps (x ∷ xs) t z e f =
       then_keeps (step token_room error_room x t) 0 0 (size_of x) t (emit token_room error_room xs) (omega arith) f (fine_step x t z.0 f (omega arith))
-      (λ u g h. emit_keeps xs u (subst (Sounds xs) (drop_drop (size_of x) t.at s ∙ ap (λ (j : ℕ). drop j s) (sym h)) z.1) (omega arith) g)
+      (λ u g h. emit_keeps xs u (subst (Sounds xs) (drop-drop (size_of x) t.at s ∙ ap (λ (j : ℕ). drop j s) (sym h)) z.1) (omega arith) g)
 
 -- every lexing keeps good tokens and errors, within the rooms
 pub lexed_keeps : (rule : ℕ) (s : List ℕ) (token_room error_room : ℕ) → Keeps s token_room error_room (lexed rule s token_room error_room)

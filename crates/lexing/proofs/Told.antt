@@ -14,7 +14,7 @@ use Rattle.token.proofs.Range.{kind_range}
 use Rattle.spans.specs.Span.{is_alpha, is_digit, run, count}
 use Rattle.rules.specs.Rules.{is_named}
 use Rattle.rules.proofs.Laws.{newline_ends}
-use Rattle.numbers.specs.number_kind.{point_size, pointed, number_size}
+use Rattle.numbers.specs.Number.{point_size, pointed, number_size}
 use Rattle.records.specs.Messages.{lone_bang}
 use Rattle.strings.specs.declared.Reading.{Reading}
 use Rattle.strings.specs.declared.Ended.{Ended}
@@ -23,9 +23,9 @@ use Rattle.strings.specs.declared.Step.{Step}
 use Rattle.strings.specs.declared.Step.TheVariants.{On, Stop}
 use Rattle.strings.specs.Strings.{is_escape, pick_step, step_of, and_then, read_of, begun}
 use Rattle.items.specs.declared.Sign.{Sign}
-use Rattle.items.specs.declared.Sign.TheVariants.{newline_kind, Blank, Hash, Quote, Single, Pair, Illegal}
+use Rattle.items.specs.declared.Sign.TheVariants.{Newline, Blank, Hash, Quote, Single, Pair, Illegal}
 use Rattle.items.specs.declared.Item.{Item}
-use Rattle.items.specs.declared.Item.TheVariants.{Space, Comment, Name, Text, number_kind, Mark, Wrong}
+use Rattle.items.specs.declared.Item.TheVariants.{Space, Comment, Name, Text, Number, Mark, Wrong}
 use Rattle.items.specs.Items.{Row, find, pick_sign, signs, sign_of, letter, digit, sign, pick_class, pick_item, text_item, lone, pair_at, item_as, item_of}
 use Rattle.lexing.specs.Begins.{newlines}
 
@@ -125,7 +125,7 @@ Tells Space s = Unit
 Tells (Comment n) s = Unit
 Tells (Name k n) s = Told k n 0 s
 Tells (Text n m l) s = Told kinds.string_kind n m s
-Tells (number_kind x) s = Told kinds.number_kind x.size 0 s
+Tells (Number x) s = Told kinds.number_kind x.size 0 s
 Tells (Mark k n m) s = Told k n m s
 Tells (Wrong e n m) s = (1 ≤ e) × (e ≤ 3)
 
@@ -142,7 +142,7 @@ mark_kind k t = (leb→le 2 k (and_l (leb 2 k) (leb k 49) t), leb→le k 49 (and
 
 -- a sign that is no newline, with kinds of marks; one that stands alone may be 0, which is message 1
 abbrev fit : Sign → Bool
-fit newline_kind = false
+fit Newline = false
 fit Blank = true
 fit Hash = true
 fit Quote = true
@@ -192,7 +192,7 @@ pair_tells k l b (x ∷ s) e t u = at (eqb x 61) refl
     at false h = lone_tells b (x ∷ s) e k t
 
 sign_tells : (rule : ℕ) (z : Sign) (b : ℕ) (s : List ℕ) → eqb b 10 ≡ false → T (fit z) → Tells (item_as rule (sign z) b s) (b ∷ s)
-sign_tells rule newline_kind b s e t = absurd t
+sign_tells rule Newline b s e t = absurd t
 sign_tells rule Blank b s e t = tt
 sign_tells rule Hash b s e t = tt
 sign_tells rule Quote b s e t = text_tells b s e (read_of s begun) (counts s begun)
@@ -206,7 +206,7 @@ unfolding sign_of
 item_tells rule b s = at (is_alpha b) (is_digit b) (eqb b 10) refl refl refl
   where
     at : (p q r : Bool) → is_alpha b ≡ p → is_digit b ≡ q → eqb b 10 ≡ r
-        → Tells (item_as rule (pick_class p letter (pick_class q digit (sign (pick_sign r newline_kind (find b (tail signs)))))) b s) (b ∷ s)
+        → Tells (item_as rule (pick_class p letter (pick_class q digit (sign (pick_sign r Newline (find b (tail signs)))))) b s) (b ∷ s)
     at true q r h i j =
         let k = kind_range (b ∷ take (run (is_named rule) s) s) in
         no_line _ _ _ _ (omega arith, k.1) (quiet b (take (run (is_named rule) s) s) (no_newline is_alpha refl b h) ∙ run_quiet (is_named rule) (newline_ends rule) s)

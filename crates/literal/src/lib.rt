@@ -77,7 +77,7 @@ pub fn none() -> Words
 
 // The low and the high half of a float's bits. A float that is no number differs from itself and has one pattern of bits here.
 fn float_words(x: f64) -> Words
-    ensures { result ≡ words_of (Literal.number_kind x) }
+    ensures { result ≡ words_of (Literal.Number x) }
 {
     if x != x {
         return Words {

@@ -2,7 +2,7 @@
 use mathlib.Core.Path.{◌≡◌, refl}
 use mathlib.Core.Bool.{true, false}
 use mathlib.Core.List.{[], ◌∷◌}
-use Rattle.numbers.specs.number_kind.{number_at}
+use Rattle.numbers.specs.Number.{number_at}
 
 whole_and_places : number_at (49 ∷ 50 ∷ 46 ∷ 53 ∷ 48 ∷ 59 ∷ []) ≡ record { size = 5; cut = false; whole = 1250; places = 2 }
 whole_and_places = refl

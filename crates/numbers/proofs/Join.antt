@@ -9,11 +9,11 @@ use native.Mathlib.Omega.{arith}
 use borrow.Author.Tests.{eqb-true, eqb-false, eq-eqb, ne_eqb, lt-ltb}
 use lib.Dec.{eqb, ltb}
 use lib.ListN.{length, get_or, take, drop, length-drop, drop_of_length-le}
-use lib.Seq.{drop-cons, drop_drop, take-add}
+use lib.Seq.{drop-cons, drop-drop, take-add}
 use Rattle.spans.specs.Span.{is_digit, run}
 use Rattle.spans.proofs.Run.{run_le}
 use Rattle.numbers.specs.declared.Numeral.{Numeral}
-use Rattle.numbers.specs.number_kind.{front, point_size, pointed, number_size, whole_of, capped, number_of, number_at}
+use Rattle.numbers.specs.Number.{front, point_size, pointed, number_size, whole_of, capped, number_of, number_at}
 use Rattle.numbers.proofs.Whole.{cap_whole, whole_append}
 
 -- two numerals of the same parts
@@ -46,7 +46,7 @@ module _ (s : List ℕ) (start p d m : ℕ) (h : start < length s) (so : d ≡ c
 
   -- what stands past the digits
   past : drop a t ≡ drop p s
-  past = drop_drop a (start + 1) s ∙ ap (λ (i : ℕ). drop i s) (sym to)
+  past = drop-drop a (start + 1) s ∙ ap (λ (i : ℕ). drop i s) (sym to)
 
   -- the first digit is the number so far
   begun : (w : List ℕ) → whole_of (get_or s start 0 ∷ w) 0 ≡ whole_of w d

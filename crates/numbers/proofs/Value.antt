@@ -7,7 +7,7 @@ use borrow.Author.Tests.{lt-leb}
 use Rattle.literal.specs.Value.{value_of}
 use Rattle.literal.specs.declared.Span.{Span}
 use Rattle.literal.specs.declared.Literal.TheVariants.{Long}
-use Rattle.numbers.specs.number_kind.{capped}
+use Rattle.numbers.specs.Number.{capped}
 use Rattle.numbers.proofs.Whole.{side, within, over}
 
 long : (x k : ℕ) (span : Span) → 2 ^ 53 < x → value_of x k span ≡ Long span

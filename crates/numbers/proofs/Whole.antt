@@ -12,7 +12,7 @@ use lib.ListN.{length, get_or, drop, drop_of_length-le}
 use lib.Seq.{drop-cons}
 use lib.Ieee.Fits.{and_l, and_r}
 use Rattle.spans.specs.Span.{is_digit}
-use Rattle.numbers.specs.number_kind.{front, whole_of, capped}
+use Rattle.numbers.specs.Number.{front, whole_of, capped}
 
 -- ---- the cap
 pub over : (n : ℕ) → 2 ^ 53 < n → capped n ≡ 2 ^ 53 + 1

@@ -1,7 +1,7 @@
 // Numbers of lexer.rs: where one ends and what its digits are, for `Literal::number` to value.
 ghost use Rattle.std.specs.Prelude.{◌≡◌, cond, ◌+◌, ◌-◌, ◌*◌, ◌^◌, ◌≤◌, drop};
 ghost use Rattle.spans.specs.Span.{is_digit, run};
-ghost use Rattle.numbers.specs.number_kind.{front, whole_of, capped, number_at};
+ghost use Rattle.numbers.specs.Number.{front, whole_of, capped, number_at};
 
 #[derive(Drop)]
 pub struct Numeral {

@@ -1,6 +1,6 @@
 -- Outlines of worked scripts, the example of docs/RULES.md, 'Outline', first, by computation: a token's fifth number is the line where it begins. Assumes nothing.
 use Prim.Native.Nat.{ℕ}
-use Prim.Native.string_kind.{string_kind}
+use Prim.Native.String.{String}
 use mathlib.Core.Path.{◌≡◌, refl}
 use mathlib.Core.List.{List, [], ◌∷◌}
 use lib.Ieee.{div, of_int, to_bits}
@@ -21,7 +21,7 @@ use Rattle.text.proofs.Codes.{codes}
 
 -- a script, and what `outline` has to print of it
 data Outlined : Type 0 where
-  outlined : string_kind → string_kind → Outlined
+  outlined : String → String → Outlined
 
 -- `a = 1` and a newline, that example; a string of three lines; newlines of the source and the added one; the empty script
 abbrev scripts : List Outlined

@@ -10,7 +10,7 @@ use mathlib.Core.List.{[], ◌∷◌, List}
 use lib.ListN.{length}
 use seplogic.Ra.Ura.{Ura}
 use seplogic.Ra.TreeShare.{full_share}
-use mir.Syntax.{fn_kind, Name, Body, Ty, Width, named, erased, mut, ty_ref, ty_int, w32, local, value_local, place, deref, field, copy, rv_opd, addr_of, aggregate, assign, call, seq, return}
+use mir.Syntax.{Fn, Name, Body, Ty, Width, named, erased, mut, ty_ref, ty_int, w32, local, value_local, place, deref, field, copy, rv_opd, addr_of, aggregate, assign, call, seq, return}
 use mir.Val.{Val, vptr}
 use base.Logic.{SProp, ent, sep, emp, via, fst∗, id⊢}
 use base.Fml.{Fml, ftrue, flft, fobs, fbor, fat}
@@ -57,7 +57,7 @@ abbrev lent : Width → ℕ → ℕ → ℕ → Body → Body
 lent ω i j l rest = seq (assign (place j []) (addr_of (place i (field 0 ∷ deref (ty_int ω) ∷ [])))) (seq (assign (place l []) (aggregate (copy (place j []) ∷ copy (place i (field 1 ∷ [])) ∷ []))) rest)
 
 -- the MIR, with the callee's name
-abbrev pub thin : Name → fn_kind
+abbrev pub thin : Name → Fn
 thin k = record {
   lifetimes = 6;
   outlives = [];

@@ -7,7 +7,7 @@ use Prim.Native.Nat.{ℕ, zero, suc, ◌+◌, ◌-◌, ◌*◌, ◌≤◌, ◌<�
 use native.Mathlib.Omega.{arith}
 use lib.Dec.{leb, eqb}
 use lib.ListN.{length, get_or, take, drop, set, length-set, get_or-eq_default}
-use lib.Seq.{drop_drop, take-take, take_at, length-take-le, get_or-take, get_or-set_other}
+use lib.Seq.{drop-drop, take-take, take_at, length-take-le, get_or-take, get_or-set_other}
 use Rattle.token.specs.Kind.{newline_kind}
 use Rattle.records.specs.Table.{room, put, field, linked, zeroed, error_width, node_width}
 use Rattle.records.specs.Words.{error_words, node_words}
@@ -75,7 +75,7 @@ take_less m n L L' h e = sym (take-take m n L h) ∙ ap (λ (l : List ℕ). take
 drop_more : (m n : ℕ) (L L' : List ℕ) → m ≤ n → drop m L ≡ drop m L' → drop n L ≡ drop n L'
 drop_more m n L L' h e =
     let s : n ≡ m + (n - m) = omega arith in
-    rw s (sym (drop_drop (n - m) m L) ∙ ap (λ (l : List ℕ). drop (n - m) l) e ∙ drop_drop (n - m) m L')
+    rw s (sym (drop-drop (n - m) m L) ∙ ap (λ (l : List ℕ). drop (n - m) l) e ∙ drop-drop (n - m) m L')
 
 errors_on : (a b c : ℕ) (E F G : List ℕ) → ErrorsGrow a E b F → ErrorsGrow b F c G → ErrorsGrow a E c G
 errors_on a b c E F G h g = record {

@@ -3,7 +3,7 @@ use mathlib.Core.Path.{◌≡◌, refl}
 use mathlib.Core.Bool.{Bool, true, false, cond}
 use Prim.Native.Nat.{ℕ, ◌-◌, ◌≤◌}
 use native.Mathlib.Omega.{arith}
-use Rattle.spans.specs.declared.class_kind.TheVariants.{Name, Word}
+use Rattle.spans.specs.declared.Class.TheVariants.{Name, Word}
 use Rattle.spans.specs.Span.{is_alpha, in_class}
 use Rattle.rules.specs.Rules.{one, two, is_two, is_named, loops_behind, stops_at}
 

@@ -1,7 +1,7 @@
 -- The two rules of a reading (docs/RULES.md, 'Lexing'). Rule one reads as the original does. Rule two is rule one but for what stands on this page.
 use Rattle.std.specs.Prelude.{ℕ, ◌-◌, Bool, cond, not, ◌&&◌, ◌||◌, eqb}
-use Rattle.spans.specs.declared.class_kind.{class_kind}
-use Rattle.spans.specs.declared.class_kind.TheVariants.{Name, Word}
+use Rattle.spans.specs.declared.Class.{Class}
+use Rattle.spans.specs.declared.Class.TheVariants.{Name, Word}
 use Rattle.spans.specs.Span.{in_class}
 
 -- rule one, the original's
@@ -22,7 +22,7 @@ is_two rule = eqb rule two
 
 -- ---- by rule two names may have digits after the first letter or underscore
 -- what a name is made of after its first byte
-abbrev pub name_class : ℕ → class_kind
+abbrev pub name_class : ℕ → Class
 name_class rule = cond (is_two rule) Word Name
 
 -- whether a byte goes on with a name

@@ -1,6 +1,6 @@
 -- Scripts with what the original answers: how a case is tried on the definition.
 use Prim.Native.Nat.{ℕ, ◌+◌, ◌*◌, ◌-◌}
-use Prim.Native.string_kind.{string_kind}
+use Prim.Native.String.{String}
 use mathlib.Core.Bool.{cond}
 use mathlib.Core.List.{List, [], ◌∷◌, ◌++◌}
 use lib.Dec.{eqb}
@@ -11,7 +11,7 @@ use Rattle.text.proofs.Codes.{codes}
 
 -- a rule, a way, a script, the rooms for tokens, errors, nodes and index words, and the words that are kept
 pub data Case : Type 0 where
-  case : ℕ → ℕ → string_kind → ℕ → ℕ → ℕ → ℕ → List ℕ → Case
+  case : ℕ → ℕ → String → ℕ → ℕ → ℕ → ℕ → List ℕ → Case
 
 -- the words that are not w
 abbrev pub others : ℕ → List ℕ → List ℕ

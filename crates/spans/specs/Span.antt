@@ -1,7 +1,7 @@
 -- Rules 2, 3 and 4 of docs/RULES.md, 'Lexing': the bytes of names, numbers and comments, and how far a run of them reaches.
 use Rattle.std.specs.Prelude.{ℕ, suc, Bool, true, false, not, ◌&&◌, ◌||◌, List, [], ◌∷◌, leb, eqb}
-use Rattle.spans.specs.declared.class_kind.{class_kind}
-use Rattle.spans.specs.declared.class_kind.TheVariants.{Name, Word, Digit, Comment}
+use Rattle.spans.specs.declared.Class.{Class}
+use Rattle.spans.specs.declared.Class.TheVariants.{Name, Word, Digit, Comment}
 
 -- letters and _
 abbrev pub is_alpha : ℕ → Bool
@@ -16,7 +16,7 @@ abbrev pub is_inner : ℕ → Bool
 is_inner b = not (eqb b 10)
 
 -- whether a byte belongs to the run
-abbrev pub in_class : class_kind → ℕ → Bool
+abbrev pub in_class : Class → ℕ → Bool
 in_class Name b = is_alpha b
 in_class Word b = is_alpha b || is_digit b
 in_class Digit b = is_digit b

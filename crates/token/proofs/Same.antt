@@ -1,6 +1,6 @@
 -- When two byte strings are the same. Assumes nothing.
 use mathlib.Core.Path.{◌≡◌, refl, ap, ◌∙◌}
-use mathlib.Core.Bool.{Bool, true, false, ◌&&◌, and_false}
+use mathlib.Core.Bool.{Bool, true, false, ◌&&◌, and-false}
 use mathlib.Core.List.{List, [], ◌∷◌}
 use Prim.Native.Nat.{ℕ, suc}
 use borrow.Author.Tests.{eqb-true}
@@ -13,7 +13,7 @@ pub same_length : (x w : List ℕ) → (length x ≡ length w → ⊥) → same 
 same_length [] [] h = absurd (h refl)
 same_length [] (b ∷ w) h = refl
 same_length (a ∷ x) [] h = refl
-same_length (a ∷ x) (b ∷ w) h = ap (λ (t : Bool). eqb a b && t) (same_length x w (λ e. h (ap suc e))) ∙ and_false (eqb a b)
+same_length (a ∷ x) (b ∷ w) h = ap (λ (t : Bool). eqb a b && t) (same_length x w (λ e. h (ap suc e))) ∙ and-false (eqb a b)
 
 -- the test is right
 pub same_true : (x w : List ℕ) → same x w ≡ true → x ≡ w

@@ -3,7 +3,7 @@ use mathlib.Core.Path.{◌≡◌, refl, sym, ap, ◌∙◌}
 use mathlib.Core.Bool.{Bool, true, false, cond}
 use mathlib.Core.List.{List, [], ◌∷◌}
 use Prim.Native.Nat.{ℕ, suc, ◌+◌, ◌*◌, ◌^◌, ◌≤◌, ◌<◌}
-use Prim.Native.string_kind.{string_kind}
+use Prim.Native.String.{String}
 use native.Mathlib.Nat.{pow-le-pow_right, pow-succ'}
 use native.Mathlib.Numerals.{add-one}
 use native.Mathlib.Omega.{arith}
@@ -46,7 +46,7 @@ one_word p q (a ∷ x) (b ∷ w) f t l e =
     (omega arith, rw (o, k))
 
 -- a name with the length and the number of a text is that text
-pub found : (s : string_kind) (x : List ℕ) {n : ℕ} → ((i : ℕ) → Fits w8 (get_or x i 0)) → T (are_bytes (spelt s)) → length x ≡ length (spelt s)
+pub found : (s : String) (x : List ℕ) {n : ℕ} → ((i : ℕ) → Fits w8 (get_or x i 0)) → T (are_bytes (spelt s)) → length x ≡ length (spelt s)
     → n ≡ letters_from 0 x → n ≡ letters_from 0 (spelt s) → keyword_of (spelt s) ≡ keyword_of x
 found s x f t l e h = ap keyword_of (sym (one_word 0 0 x (spelt s) f t l (sym e ∙ h)).1)
 

@@ -2,17 +2,17 @@
 -- a line's end is the word's row there. `proofs/Page.antt` proves that the page is the table, and decides as the table does.
 use Rattle.std.specs.Prelude.{Bool, true, false, cond, List, [], ◌∷◌, ℕ, ◌+◌, ◌*◌, eqb, length}
 use Prim.Native.Char.{code}
-use Prim.Native.string_kind.{string_kind, [] as []ˢ, ◌∷◌ as ◌∷ˢ◌}
+use Prim.Native.String.{String, [] as []ˢ, ◌∷◌ as ◌∷ˢ◌}
 use Rattle.token.specs.Keyword.{Entry, lookup}
 use Rattle.token.specs.Kind as kinds
 
 -- the letters of a text by their codes, which are bytes where it is ASCII
-abbrev pub spelt : string_kind → List ℕ
+abbrev pub spelt : String → List ℕ
 spelt []ˢ = []
 spelt (c ∷ˢ s) = code c ∷ spelt s
 
 -- a word by its letters, and its kind
-abbrev pub row : string_kind → ℕ → Entry
+abbrev pub row : String → ℕ → Entry
 row s k = record { word = spelt s; kind = k }
 
 -- 2 letters

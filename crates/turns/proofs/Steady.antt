@@ -76,18 +76,18 @@ InOf (reply q (Node f) E N) = f.node ≤ q.nodes
 InOf (reply q (Stop o) E N) = Unit {0}
 
 -- as a record, so that antt reads the answer off the type
-record in_kind (r : Reply) : Type 0 where
+record In (r : Reply) : Type 0 where
   kept : InOf r
 
-in_then : (n : Found) (q : state.State) (E N : List ℕ) (r : Reply) → Grown q.errors E q.nodes N r → n.node ≤ q.nodes → in_kind (and_then r λ g r E N. reply r (Node n) E N)
+in_then : (n : Found) (q : state.State) (E N : List ℕ) (r : Reply) → Grown q.errors E q.nodes N r → n.node ≤ q.nodes → In (and_then r λ g r E N. reply r (Node n) E N)
 in_then n q E N (reply r (Node g) E' N') h l = let u = h.nodes.more in record { kept = omega arith }
 in_then n q E N (reply r (Stop o) E' N') h l = record { kept = tt }
 
-top_in : (T : View) (p : state.State) (E N : List ℕ) → p.nodes ≤ room node_width N → p.current ≤ count T.tokens → in_kind (top_level T p E N)
+top_in : (T : View) (p : state.State) (E N : List ℕ) → p.nodes ≤ room node_width N → p.current ≤ count T.tokens → In (top_level T p E N)
 unfolding top_level
 top_in T p E N a b = first (lower T 128 Declaration p E N) (lower_reads T 128 Declaration p E N a b)
   where
-    first : (r : Reply) → Done T.tokens p.nodes (Held T.tokens Statement 0 p.nodes) N r → in_kind (and_then r λ f q E N. and_then (consume_at T newline_kind 4 q E N) λ g r E N. reply r (Node f) E N)
+    first : (r : Reply) → Done T.tokens p.nodes (Held T.tokens Statement 0 p.nodes) N r → In (and_then r λ f q E N. and_then (consume_at T newline_kind 4 q E N) λ g r E N. reply r (Node f) E N)
     first (reply q (Node f) E N) d = let e : f.node ≡ q.nodes = d.done.2.root in in_then f q E N _ (grown_consume T newline_kind 4 q E N) (omega arith)
     first (reply q (Stop o) E N) d = record { kept = tt }
 
@@ -101,7 +101,7 @@ module _ (T E N X : List ℕ) (p : Parser) (fit : Fit T E N X p) (q : state.Stat
       let room_of_lem : p.tokens ≤ count T = fit.tokens in
       let g = subst (Grown p.errors E p.nodes N) (sym t) (top_frames (indexed T X) (state_of p) E N) in
       let l = subst Low (sym t) (top_low (indexed T X) (state_of p) E N fit.loops) in
-      let i = subst in_kind (sym t) (top_in (indexed T X) (state_of p) E N fit.nodes (omega arith)) in
+      let i = subst In (sym t) (top_in (indexed T X) (state_of p) E N fit.nodes (omega arith)) in
       let self : Agree end.0 (indexed T X) (indexed T X) = record { counts = refl; end = end.2; kinds = λ i h. refl; starts = λ i h. refl; lines = λ i h. refl; hops = λ i h o. refl; within = λ i h. let y = fit.within i (omega (arith, size, h)) in omega (arith, size, y) } in
       let at : q.current ≤ end.0 = subst (λ (r : Reply). cursor_of r ≤ end.0) (sym t) (ahead_at end.0 (top_ahead (indexed T X) (indexed T X) end.0 self (state_of p) E N (omega arith))) in
       record {

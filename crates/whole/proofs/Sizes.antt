@@ -8,7 +8,7 @@ use native.Mathlib.Omega.{arith}
 use borrow.Author.Tests.{eqb-true, eqb-false, eq-eqb, lt-ltb, le-ltb}
 use lib.Dec.{eqb, ltb}
 use lib.ListN.{length, get_or, take, drop, replicate, length-append, length-drop, get_or-append}
-use lib.Seq.{take-append_seam, drop-append-add, drop_drop, get_or-append-add}
+use lib.Seq.{take-append_seam, drop-append-add, drop-drop, get_or-append-add}
 use Rattle.text.specs.Text.{is_text}
 use Rattle.rules.specs.Rules.{known}
 use Rattle.records.specs.Table.{room, field, zeroed, token_width, error_width, node_width, index_width}
@@ -107,7 +107,7 @@ over_drop : (w : ℕ) (ws t : List ℕ) → length ws ≤ w → drop w (over ws 
 over_drop w ws t h =
     let m = w - length ws in
     let e : w ≡ length ws + m = omega arith in
-    ap (λ (k : ℕ). drop k (over ws t)) e ∙ drop-append-add ws (drop (length ws) t) m ∙ drop_drop m (length ws) t ∙ ap (λ (k : ℕ). drop k t) (sym e)
+    ap (λ (k : ℕ). drop k (over ws t)) e ∙ drop-append-add ws (drop (length ws) t) m ∙ drop-drop m (length ws) t ∙ ap (λ (k : ℕ). drop k t) (sym e)
 
 -- record i of the front is the same in both
 over_field : (k : ℕ) (ws t t' : List ℕ) (n i : ℕ) → length t ≡ length t' → length ws ≡ token_width * n → i < n → k < token_width → field token_width k (over ws t) i ≡ field token_width k (over ws t') i
