@@ -1,4 +1,6 @@
 // The decoding of one string into a lent buffer.
+#![tactic(auto)]
+
 ghost use Rattle.std.specs.Prelude.{◌≡◌, ◌++◌, false, ◌≤◌, length, drop};
 ghost use Rattle.strings.specs.Strings.{decoded_from};
 ghost use Rattle.decoding.specs.Decode.{decode_from, decode_of, Decoding};
@@ -8,7 +10,7 @@ use strings::Ended;
 
 // What a decoding answers: the outcome, and how many bytes of the buffer it wrote.
 #[repr(C)]
-#[derive(Drop)]
+#[derive(Clone, Copy)]
 pub struct Decoded {
     pub outcome: u32,
     pub length: usize,

@@ -1,1 +1,2 @@
 // No code: room enough for every source.
+#![tactic(auto)]

@@ -1,4 +1,6 @@
 // The step from lexing to parsing, and what a whole reading is: its definition and its answer.
+#![tactic(auto)]
+
 ghost use Rattle.std.specs.Prelude.{◌≡◌};
 ghost use Rattle.entry.specs.Ways.{outcome_on};
 ghost use Rattle.entry.specs.Entry.{entered, Indexes, Enters};
@@ -8,7 +10,7 @@ use records::Outcome;
 
 // What a reading answers: the outcome, how many tokens, errors and nodes are kept, the first statement, 0 where none is, and how often `check` was called.
 #[repr(C)]
-#[derive(Drop)]
+#[derive(Clone, Copy)]
 pub struct Answer {
     pub outcome: u32,
     pub tokens: u32,
@@ -19,7 +21,7 @@ pub struct Answer {
 }
 
 // The two ways of a reading, named here once: the numbers of specs/Ways.antt.
-#[derive(Drop)]
+#[derive(Clone, Copy)]
 pub struct Way {
     pub number: u32,
 }

@@ -1,5 +1,7 @@
 // What a reading keeps, as text (docs/RULES.md, 'Outline'): a line `o` for the answer, then a line for each token, error and node.
 // A text goes into a lent buffer as far as that has room.
+#![tactic(auto)]
+
 ghost use Rattle.std.specs.Prelude.{ℕ, ◌+◌, ◌*◌, ◌≤◌, ◌≡◌, List, [], ◌∷◌, ◌++◌, get_or};
 ghost use Rattle.io.specs.Counts.{IsPrefixLen};
 ghost use Rattle.form.specs.Text.{Holds, field, line_of, lines_of, head_of, read_of, text_of, outline_of};

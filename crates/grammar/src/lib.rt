@@ -1,4 +1,6 @@
 // The readers of parser.rs, `declaration` to `super_expr`, as far as they call each other: one cycle of calls. Each answers with the state and what it found; a stop is passed on. `levels` is how many levels may still open.
+#![tactic(auto)]
+
 ghost use Rattle.std.specs.Prelude.{◌≡◌, ◌-◌};
 ghost use Rattle.parser.specs.Tokens.{indexed};
 ghost use Rattle.parser.specs.Tables.{reply, and_then};

@@ -1,4 +1,6 @@
 // The parser that a host keeps between two calls: what becomes of it, and whether it fits the tables that are lent with it.
+#![tactic(auto)]
+
 ghost use Rattle.std.specs.Prelude.{◌≡◌, eqb};
 ghost use Rattle.records.specs.Outcomes.{goes_on};
 ghost use Rattle.host.specs.Kept.{fresh, marked_as, behind, stopped_at};
@@ -12,7 +14,7 @@ use token::Token;
 // statement, the last outcome, and the looks so far; `ended` is 0 until the outcome is the final answer. The rule and the way are the host's: they are set before `begin`, and no call
 // changes them. A parser of zeros is one that nothing was begun with: a read answers 18.
 #[repr(C)]
-#[derive(Drop)]
+#[derive(Clone, Copy)]
 pub struct Parser {
     pub rule: u32,
     pub way: u32,

@@ -1,4 +1,6 @@
 // What stands at a place of the source: bytes to items, by the classes and marks of lexer.rs.
+#![tactic(auto)]
+
 ghost use Rattle.std.specs.Prelude.{◌≡◌, ◌+◌, ◌<◌, length, drop};
 ghost use Rattle.strings.specs.Strings.{read_of, begun};
 ghost use Rattle.numbers.specs.Number.{number_at};
@@ -10,7 +12,7 @@ use strings::Ended;
 use token::Token;
 
 // What a byte is that is no letter and no digit.
-#[derive(Drop)]
+#[derive(Clone, Copy)]
 pub enum Sign {
     Newline,
     // Space, tab, carriage return: they emit nothing.
@@ -25,7 +27,7 @@ pub enum Sign {
 }
 
 // What stands at a place of the source: all that its bytes give, without the place, the line or a byte.
-#[derive(Drop)]
+#[derive(Clone, Copy)]
 pub enum Item {
     Space,
     Comment(usize),

@@ -1,4 +1,6 @@
 // The lexer of lexer.rs: items to token and error records.
+#![tactic(auto)]
+
 ghost use Rattle.std.specs.Prelude.{◌≡◌, ◌+◌, ◌≤◌, length, []};
 ghost use Rattle.records.specs.Table.{room, token_width, error_width};
 ghost use Rattle.items.specs.Items.{items};
@@ -13,7 +15,7 @@ use records::{InterpreterError, Outcome, TokenData};
 use token::Token;
 
 // The state by value: the next byte, the line, how many tokens and errors stand in their tables, and the kind of the last token.
-#[derive(Drop)]
+#[derive(Clone, Copy)]
 pub struct Lexer {
     pub current: usize,
     pub line: u32,
@@ -23,7 +25,7 @@ pub struct Lexer {
 }
 
 // The lexing goes on, or stops with an outcome.
-#[derive(Drop)]
+#[derive(Clone, Copy)]
 pub enum Next {
     On(Lexer),
     Stop(u32),
@@ -31,7 +33,7 @@ pub enum Next {
 
 // The answer: the outcome, and how many tokens and errors are kept.
 #[repr(C)]
-#[derive(Drop)]
+#[derive(Clone, Copy)]
 pub struct Scanned {
     pub outcome: u32,
     pub tokens: u32,

@@ -1,4 +1,6 @@
 // The newline index: written once, after lexing, so that no reader walks the same newlines again.
+#![tactic(auto)]
+
 ghost use Rattle.std.specs.Prelude.{◌≡◌, cond, ◌+◌, ◌<◌, eqb};
 ghost use Rattle.token.specs.Kind.{newline_kind};
 ghost use Rattle.parser.specs.Tokens.{kind_at};

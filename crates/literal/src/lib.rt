@@ -1,16 +1,18 @@
 // A literal of token.rs, by value: what a decimal's digits are worth, and a literal's words in a token record.
+#![tactic(auto)]
+
 ghost use Rattle.std.specs.Prelude.{◌≡◌};
 ghost use Rattle.literal.specs.Value.{value_of, words_of};
 
 // Where a token's bytes stand in the source.
-#[derive(Drop)]
+#[derive(Clone, Copy)]
 pub struct Span {
     pub start: u32,
     pub length: u32,
 }
 
 // One of five: text, number, long number, truth value or nil.
-#[derive(Drop)]
+#[derive(Clone, Copy)]
 pub enum Literal {
     // A string, by its span; and its decoded length, which the record keeps.
     Text(Span, u32),
@@ -22,7 +24,7 @@ pub enum Literal {
 }
 
 // The three value words of a token record: the value sort and its two words.
-#[derive(Drop)]
+#[derive(Clone, Copy)]
 pub struct Words {
     pub sort: u32,
     pub low: u32,

@@ -1,9 +1,11 @@
 // Numbers of lexer.rs: where one ends and what its digits are, for `Literal::number` to value.
+#![tactic(auto)]
+
 ghost use Rattle.std.specs.Prelude.{◌≡◌, cond, ◌+◌, ◌-◌, ◌*◌, ◌^◌, ◌≤◌, drop};
 ghost use Rattle.spans.specs.Span.{is_digit, run};
 ghost use Rattle.numbers.specs.Number.{front, whole_of, capped, number_at};
 
-#[derive(Drop)]
+#[derive(Clone, Copy)]
 pub struct Numeral {
     // How many bytes it has.
     pub size: usize,
@@ -51,7 +53,7 @@ pub fn number(s: &[u8], start: usize) -> Numeral
     }
 }
 
-#[derive(Drop)]
+#[derive(Clone, Copy)]
 struct Digits {
     end: usize,
     whole: u64,

@@ -1,4 +1,6 @@
 // The binary operators, `or` to `power`, as far as no reader is called: their levels, what a turn of the readers' one loop does, and the row of an operation.
+#![tactic(auto)]
+
 ghost use Rattle.std.specs.Prelude.{◌≡◌, leb, ◌-◌};
 ghost use Rattle.parser.specs.Tokens.{indexed};
 ghost use Rattle.parser.specs.Nodes as rows;
@@ -9,14 +11,14 @@ use records::Node;
 use token::Token;
 
 // What a turn does: none is left, or it takes an operator of that level and goes on at that token. The right operand is of the tighter levels, so that a level groups left.
-#[derive(Drop)]
+#[derive(Clone, Copy)]
 pub enum Turn {
     Over,
     Takes(u32, u32),
 }
 
 // A turn, and how often the Rust's nested loops call `check` for it.
-#[derive(Drop)]
+#[derive(Clone, Copy)]
 pub struct Tried {
     pub turn: Turn,
     pub looks: u32,

@@ -1,5 +1,7 @@
 // Prints the outlines of the scripts in data/, one after the other: every outcome occurs, and the examples are among them. The file `stdout`
 // has the right answers. The Rust crate `vectors` makes it with the scripts.
+#![tactic(auto)]
+
 fn main() {
     for i in 0..SCRIPTS {
         script(i);

@@ -1,4 +1,6 @@
 // Prints what a reading of standard input keeps, as an outline (docs/RULES.md, 'Outline').
+#![tactic(auto)]
+
 fn main() {
     // One byte more than there is room for tells a script that is too long.
     let mut input = [0u8; 4097];

@@ -1,4 +1,6 @@
 // What Rust and C link for one statement at a time, over a parser that the host keeps and lends.
+#![tactic(auto)]
+
 ghost use Rattle.std.specs.Prelude.{◌≡◌};
 ghost use Rattle.steps.specs.Steps.{begun, next_of};
 

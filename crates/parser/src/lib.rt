@@ -1,4 +1,6 @@
 // What the readers of parser.rs stand on: the state, what a reader answers, and the leaves, which look at tokens and write nodes and errors.
+#![tactic(auto)]
+
 ghost use Rattle.std.specs.Prelude.{◌≡◌, List, not, ℕ, ◌-◌, eqb};
 ghost use Rattle.token.specs.Kind.{eof_kind};
 ghost use Rattle.rules.specs.Rules.{loops_behind};
@@ -13,7 +15,7 @@ use token::Token;
 
 // Where the reading is: the token at the cursor, how many errors and nodes stand in their tables, the open loops of the innermost function, and
 // how often `check` was called. The rule is carried along, and no reader changes it.
-#[derive(Drop)]
+#[derive(Clone, Copy)]
 pub struct State {
     pub rule: u32,
     pub current: u32,
@@ -24,7 +26,7 @@ pub struct State {
 }
 
 // What may stand left of `=`: a name, or a property of an object; Empty is told apart since a statement asks for it.
-#[derive(Drop)]
+#[derive(Clone, Copy)]
 pub enum Form {
     Other,
     Empty,
@@ -33,7 +35,7 @@ pub enum Form {
 }
 
 // What a reader found: a node, what it may be left of `=`, and the outermost access node through which.
-#[derive(Drop)]
+#[derive(Clone, Copy)]
 pub struct Found {
     pub node: u32,
     pub form: Form,
@@ -41,28 +43,28 @@ pub struct Found {
 }
 
 // A reader gives what it found, or stops the reading with an outcome.
-#[derive(Drop)]
+#[derive(Clone, Copy)]
 pub enum Got {
     Node(Found),
     Stop(u32),
 }
 
 // A reader's answer, with the state beside it.
-#[derive(Drop)]
+#[derive(Clone, Copy)]
 pub struct Out {
     pub p: State,
     pub got: Got,
 }
 
 // Whether a token of a kind is next, and where.
-#[derive(Drop)]
+#[derive(Clone, Copy)]
 pub enum Seen {
     At(u32),
     Nothing,
 }
 
 // The next token that is no Newline: its kind, and the token past it.
-#[derive(Drop)]
+#[derive(Clone, Copy)]
 pub struct Coming {
     pub kind: u32,
     pub past: u32,
@@ -428,7 +430,7 @@ pub fn require(
 }
 
 // How the parsing ended, how many errors and nodes are kept, the first statement, and how often `check` was called.
-#[derive(Drop)]
+#[derive(Clone, Copy)]
 pub struct Parsed {
     pub outcome: u32,
     pub errors: u32,

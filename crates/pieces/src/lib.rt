@@ -1,4 +1,6 @@
 // The parts of the readers that call no reader: rows, endings, lists of names. The crates `operators` and `grammar`, which use this one, have the operators and the readers that call each other.
+#![tactic(auto)]
+
 ghost use Rattle.std.specs.Prelude.{◌≡◌, List, ℕ, ◌-◌};
 ghost use Rattle.rules.specs.Rules.{loops_behind};
 ghost use Rattle.parser.specs.Tokens.{indexed};

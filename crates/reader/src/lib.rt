@@ -1,4 +1,6 @@
 // What the Rust side links. A slice crosses the border as a pointer and a length; a struct is laid out as C does.
+#![tactic(auto)]
+
 ghost use Rattle.std.specs.Prelude.{length};
 ghost use Rattle.records.specs.Table.{room, token_width, error_width};
 ghost use Rattle.lexer.specs.Lex.{lexed_of, Lexing};

@@ -1,4 +1,6 @@
 // Token, error and node records in lent tables of words, and the words of an index.
+#![tactic(auto)]
+
 ghost use Rattle.std.specs.Prelude.{◌≡◌, min, ◌<◌};
 ghost use Rattle.records.specs.Table.{token_width, error_width, node_width, index_width, room, field, linked, zeroed, Pushed};
 ghost use Rattle.records.specs.Words.{token_words, error_words, node_words};
@@ -13,7 +15,7 @@ pub const NODE_WIDTH: usize = 9;
 pub const INDEX_WIDTH: usize = 1;
 
 // The words of a token: sort says what value it has, low and high hold it; begins is the line counter when its first byte was met, line the counter after its last.
-#[derive(Drop)]
+#[derive(Clone, Copy)]
 pub struct TokenData {
     pub kind: u32,
     pub start: u32,
@@ -26,7 +28,7 @@ pub struct TokenData {
 }
 
 // The three words of an error.
-#[derive(Drop)]
+#[derive(Clone, Copy)]
 pub struct InterpreterError {
     pub message: u32,
     pub line: u32,
@@ -34,7 +36,7 @@ pub struct InterpreterError {
 }
 
 // The nine words of a node: tokens, children and next are references, index + 1, and 0 is nothing.
-#[derive(Drop)]
+#[derive(Clone, Copy)]
 pub struct Node {
     pub kind: u32,
     pub token1: u32,
@@ -115,7 +117,7 @@ impl Node {
 }
 
 // The outcomes of docs/RULES.md, 'Outcomes', named here once: the numbers of specs/Outcomes.antt.
-#[derive(Drop)]
+#[derive(Clone, Copy)]
 pub struct Outcome {
     pub number: u32,
 }
@@ -163,7 +165,7 @@ impl Outcome {
 }
 
 // The lexer's messages. specs/Messages.antt names all, for definitions; the readers' code has their numbers, which its contracts hold against those names.
-#[derive(Drop)]
+#[derive(Clone, Copy)]
 pub struct Message {
     pub number: u32,
 }

@@ -2,7 +2,7 @@
 ghost use Rattle.std.specs.Prelude.{◌≤◌};
 
 // A field that was read: its value (a byte string's is its length), and where it ends. After a bad field all others are bad.
-#[derive(Drop)]
+#[derive(Clone, Copy)]
 pub(crate) struct Field {
     pub(crate) good: bool,
     pub(crate) value: u64,

@@ -1,5 +1,7 @@
 // Runs the leaf crates and the lexer on test vectors: a line of standard input is a vector, and a line of standard output its answer. The file
 // `stdout`, which the Rust crate `vectors` makes, has the right answers. Here it is proved only that nothing goes wrong on any input.
+#![tactic(auto)]
+
 mod bytes;
 mod fields;
 mod lexing;

@@ -1,5 +1,7 @@
 // Runs the whole reading on stored scripts and prints the answer and every word of the tables afterwards. The file `stdout`, which the Rust
 // crate `vectors` makes from the original's answers, has what is right. Here it is proved only that nothing goes wrong on any input.
+#![tactic(auto)]
+
 ghost use Rattle.std.specs.Prelude.{◌≡◌, ◌≤◌, length};
 
 fn main() {

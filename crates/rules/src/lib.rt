@@ -1,4 +1,6 @@
 // The two rules of a reading: their numbers, and where they differ.
+#![tactic(auto)]
+
 ghost use Rattle.std.specs.Prelude.{◌≡◌, ◌+◌, drop};
 ghost use Rattle.spans.specs.Span.{run};
 ghost use Rattle.rules.specs.Rules.{known, is_named, stops_at};
@@ -6,7 +8,7 @@ ghost use Rattle.rules.specs.Rules.{known, is_named, stops_at};
 use spans::Class;
 
 // The rules, named here once: the numbers of specs/Rules.antt.
-#[derive(Drop)]
+#[derive(Clone, Copy)]
 pub struct Rule {
     pub number: u32,
 }

@@ -1,9 +1,11 @@
 // Byte classes and spans of lexer.rs: names, digits, comments.
+#![tactic(auto)]
+
 ghost use Rattle.std.specs.Prelude.{◌≡◌, ◌+◌, drop};
 ghost use Rattle.spans.specs.Span.{is_alpha, is_digit, is_inner, in_class, run};
 
 // What a span is made of.
-#[derive(Drop)]
+#[derive(Clone, Copy)]
 pub enum Class {
     // Letters and _.
     Name,

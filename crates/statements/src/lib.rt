@@ -1,4 +1,6 @@
 // `parse`: the top-level statements, what is kept, and the answer.
+#![tactic(auto)]
+
 ghost use Rattle.std.specs.Prelude.{◌≡◌};
 ghost use Rattle.parser.specs.Tokens.{indexed};
 ghost use Rattle.parser.specs.Tables.{reply};

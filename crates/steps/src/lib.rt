@@ -1,4 +1,6 @@
 // One statement at a time, over a parser by value: `begin` and `read` for `pair`, which is lent one.
+#![tactic(auto)]
+
 ghost use Rattle.std.specs.Prelude.{◌≡◌, List, ℕ};
 ghost use Rattle.steps.specs.Steps.{left, leaving, refused_as, final, rest_of, begun, one_of, next_of};
 
@@ -10,7 +12,7 @@ use token::Token;
 
 // A call's answer, with the parser beside it.
 #[repr(C)]
-#[derive(Drop)]
+#[derive(Clone, Copy)]
 pub struct Stepped {
     pub parser: Parser,
     pub answer: Answer,

@@ -1,9 +1,11 @@
 // Strings: rule 5 of the lexer, from the byte after an opening quote.
+#![tactic(auto)]
+
 ghost use Rattle.std.specs.Prelude.{◌≡◌, ◌<◌, ◌^◌, drop};
 ghost use Rattle.strings.specs.Strings.{unescaped, Grown, step_of, read_of, begun};
 
 // What a string comes to. The size counts the bytes passed from the byte after the opening quote, the lines count the newlines among them that are not escaped.
-#[derive(Drop)]
+#[derive(Clone, Copy)]
 pub enum Ended {
     // The closing quote was found, and is in the size; the length is that of the decoded bytes.
     Closed {
@@ -19,7 +21,7 @@ pub enum Ended {
 }
 
 // The state of the reading: whether a backslash stands before, the bytes passed, the decoded length, the newlines.
-#[derive(Drop)]
+#[derive(Clone, Copy)]
 pub struct Reading {
     pub escaped: bool,
     pub at: usize,
@@ -28,7 +30,7 @@ pub struct Reading {
 }
 
 // What a byte makes of the reading: it goes on, or it stops.
-#[derive(Drop)]
+#[derive(Clone, Copy)]
 pub enum Step {
     On(Reading),
     Stop(Ended),

@@ -1,4 +1,6 @@
 // The text test: bytes pass if they are well-formed by the Unicode Standard's table, which is what Rust accepts as a String.
+#![tactic(auto)]
+
 ghost use Rattle.std.specs.Prelude.{◌≡◌, true, [], ◌≤◌};
 ghost use Rattle.text.specs.Text.{table, begins, behind, fits, after, is_text};
 ghost use Rattle.text.specs.Due.{columns_of};
@@ -43,7 +45,7 @@ fn larger(a: u8, b: u8) -> u8
 }
 
 // What is due within a letter: how many bytes, and from what to what the next of them may be. Those after it are 80..BF.
-#[derive(Drop)]
+#[derive(Clone, Copy)]
 struct Due {
     left: usize,
     low: u8,

@@ -1,10 +1,12 @@
 // The token type of token.rs: the kind numbers, named here once, and the kind of a name.
+#![tactic(auto)]
+
 ghost use Rattle.std.specs.Prelude.{◌≡◌, min, ◌≤◌, length};
 ghost use Rattle.token.specs.Keyword.{keyword_of, part};
 ghost use Rattle.token.specs.Page.{letters_from};
 
 // A token's kind: its place in the `Token` enum, EOF 0 to Catch 49.
-#[derive(Drop)]
+#[derive(Clone, Copy)]
 pub struct Token {
     pub kind: u32,
 }

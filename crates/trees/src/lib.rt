@@ -1,1 +1,2 @@
 // No code: the shape of every tree that a parsing keeps.
+#![tactic(auto)]

@@ -1,1 +1,2 @@
 // No code: theorems over the definition of the whole reading.
+#![tactic(auto)]
