@@ -7,7 +7,7 @@ use native.Mathlib.Nat.{sub-eq-zero_of_le, min-eq_left, min-eq_right}
 use native.Mathlib.Omega.{arith}
 use borrow.Author.Tests.{eqb-false, ne_eqb, leb-true, leb-false}
 use lib.Dec.{eqb, leb}
-use lib.ListN.{length, take, drop, length-drop}
+use lib.ListN.{length, drop, length-drop}
 use lib.Seq.{take_all}
 use Rattle.token.specs.Keyword.{same, Entry, lookup, table, keyword_of, part}
 use Rattle.token.specs.Page.{keep, sized}
