@@ -17,6 +17,7 @@ use records::{Node, Outcome};
 use token::Token;
 
 // Declarations up to the closing brace, which is passed.
+#[cycle(grammar)]
 fn block(
     tokens: &[u32],
     errors: &mut [u32],
@@ -48,6 +49,7 @@ fn block(
 }
 
 // A function from its parameters on; its loops are its own.
+#[cycle(grammar)]
 fn func(
     tokens: &[u32],
     errors: &mut [u32],
@@ -87,6 +89,7 @@ fn func(
     }
 }
 
+#[cycle(grammar)]
 fn fn_stmt(
     tokens: &[u32],
     errors: &mut [u32],
@@ -132,6 +135,7 @@ fn fn_stmt(
     }
 }
 
+#[cycle(grammar)]
 fn fn_expr(
     tokens: &[u32],
     errors: &mut [u32],
@@ -171,6 +175,7 @@ fn fn_expr(
     }
 }
 
+#[cycle(grammar)]
 fn class(
     tokens: &[u32],
     errors: &mut [u32],
@@ -203,6 +208,7 @@ fn class(
 }
 
 // Methods and static methods, up to the brace or the end; then the class.
+#[cycle(grammar)]
 fn methods(
     tokens: &[u32],
     errors: &mut [u32],
@@ -273,6 +279,7 @@ fn methods(
     }
 }
 
+#[cycle(grammar)]
 fn let_stmt(
     tokens: &[u32],
     errors: &mut [u32],
@@ -310,6 +317,7 @@ fn let_stmt(
     )
 }
 
+#[cycle(grammar)]
 fn for_loop(
     tokens: &[u32],
     errors: &mut [u32],
@@ -372,6 +380,7 @@ fn for_loop(
     for_c(tokens, errors, nodes, index, q, levels, keyword, 0)
 }
 
+#[cycle(grammar)]
 fn for_c(
     tokens: &[u32],
     errors: &mut [u32],
@@ -424,6 +433,7 @@ fn for_c(
     )
 }
 
+#[cycle(grammar)]
 fn for_in(
     tokens: &[u32],
     errors: &mut [u32],
@@ -457,6 +467,7 @@ fn for_in(
     pieces::for_node(nodes, stmt, keyword, ids.node, collection.node)
 }
 
+#[cycle(grammar)]
 fn try_catch(
     tokens: &[u32],
     errors: &mut [u32],
@@ -507,6 +518,7 @@ fn try_catch(
     )
 }
 
+#[cycle(grammar)]
 fn if_stmt(
     tokens: &[u32],
     errors: &mut [u32],
@@ -567,6 +579,7 @@ fn if_stmt(
     pieces::if_node(nodes, o, keyword, cond.node, stmts.node, e.node)
 }
 
+#[cycle(grammar)]
 fn elifs(
     tokens: &[u32],
     errors: &mut [u32],
@@ -619,6 +632,7 @@ fn elifs(
     }
 }
 
+#[cycle(grammar)]
 fn ret(
     tokens: &[u32],
     errors: &mut [u32],
@@ -651,6 +665,7 @@ fn ret(
     )
 }
 
+#[cycle(grammar)]
 fn while_stmt(
     tokens: &[u32],
     errors: &mut [u32],
@@ -682,6 +697,7 @@ fn while_stmt(
 }
 
 // `statement`: one look at the next token that is no Newline, then the tests in the Rust's order.
+#[cycle(grammar)]
 fn stmt(
     tokens: &[u32],
     errors: &mut [u32],
@@ -731,6 +747,7 @@ fn stmt(
 }
 
 // `declaration`, without its newline test. It opens a level.
+#[cycle(grammar)]
 pub fn declaration(
     tokens: &[u32],
     errors: &mut [u32],
@@ -761,6 +778,7 @@ pub fn declaration(
 }
 
 // Up to the mark, or to what is no comma; the 256th argument of a call is message 27.
+#[cycle(grammar)]
 fn arguments(
     tokens: &[u32],
     errors: &mut [u32],
@@ -808,6 +826,7 @@ fn arguments(
 }
 
 // Keys and values in turn.
+#[cycle(grammar)]
 fn pairs(
     tokens: &[u32],
     errors: &mut [u32],
@@ -857,6 +876,7 @@ fn pairs(
 }
 
 // A slice without its first part, after the first colon.
+#[cycle(grammar)]
 fn upto(
     tokens: &[u32],
     errors: &mut [u32],
@@ -915,6 +935,7 @@ fn upto(
 }
 
 // A slice with its first part, after the first colon.
+#[cycle(grammar)]
 fn slice(
     tokens: &[u32],
     errors: &mut [u32],
@@ -1032,6 +1053,7 @@ fn slice(
     )
 }
 
+#[cycle(grammar)]
 fn access(
     tokens: &[u32],
     errors: &mut [u32],
@@ -1095,6 +1117,7 @@ fn access(
     )
 }
 
+#[cycle(grammar)]
 fn primary(
     tokens: &[u32],
     errors: &mut [u32],
@@ -1166,6 +1189,7 @@ fn primary(
 }
 
 // Most expressions end with their `primary`; those leave before the loop.
+#[cycle(grammar)]
 fn call(
     tokens: &[u32],
     errors: &mut [u32],
@@ -1233,6 +1257,7 @@ fn call(
     }
 }
 
+#[cycle(grammar)]
 fn unary(
     tokens: &[u32],
     errors: &mut [u32],
@@ -1265,6 +1290,7 @@ fn unary(
 }
 
 // `or` to `power` after their first operand, without the loosest so many levels: the nested loops as one, from the tightest level to the loosest.
+#[cycle(grammar)]
 fn binary(
     tokens: &[u32],
     errors: &mut [u32],
@@ -1314,6 +1340,7 @@ fn binary(
 }
 
 // `assignment`: the value is read before the left side is judged. It opens a level.
+#[cycle(grammar)]
 fn assignment(
     tokens: &[u32],
     errors: &mut [u32],
