@@ -23,6 +23,7 @@ use Rattle.blackout.specs.Blackout.{Place, comment, name, string, other, place_o
 -- ---- tests
 pub is_true : (b : Bool) → T b → b ≡ true
 is_true true t = refl
+is_true false t = elim t [ ]
 
 pub or_else : (a b : Bool) → T (a || b) → T a ⊎ T b
 or_else true b t = inl tt

@@ -36,16 +36,16 @@ pub onward : (e : Bool) (n l m b : ℕ) → Onward n b e (step_of e n l m b)
 onward true n l m b = go (is_escape b)
   where
     go : (t : Bool) → Onward n b true (pick_step t (On (record { escaped = false; at = n + 1; length = l + 1; lines = m })) (Stop (Broken (n + 1) m)))
-    go true = (refl, λ x. elim x [ Closed i j o ↦ refl | Broken i j ↦ refl ])
+    go true = (refl, λ x. elim x as (λ y. next (place_in y true) b ≡ place_in y false) [ Closed i j o ↦ refl | Broken i j ↦ refl ])
     go false = refl
 onward false n l m b = go (eqb b 34) (eqb b 92) (eqb b 10) refl
   where
     go : (p q r : Bool) → eqb b 92 ≡ q
         → Onward n b false (pick_step p (Stop (Closed (n + 1) m l)) (pick_step q (On (record { escaped = true; at = n + 1; length = l; lines = m })) (pick_step r (On (record { escaped = false; at = n + 1; length = l + 1; lines = m + 1 })) (On (record { escaped = false; at = n + 1; length = l + 1; lines = m })))))
     go true q r e = refl
-    go false true r e = (refl, λ x. elim x [ Closed i j o ↦ ap string e | Broken i j ↦ refl ])
-    go false false true e = (refl, λ x. elim x [ Closed i j o ↦ ap string e | Broken i j ↦ refl ])
-    go false false false e = (refl, λ x. elim x [ Closed i j o ↦ ap string e | Broken i j ↦ refl ])
+    go false true r e = (refl, λ x. elim x as (λ y. next (place_in y false) b ≡ place_in y true) [ Closed i j o ↦ ap string e | Broken i j ↦ refl ])
+    go false false true e = (refl, λ x. elim x as (λ y. next (place_in y false) b ≡ place_in y false) [ Closed i j o ↦ ap string e | Broken i j ↦ refl ])
+    go false false false e = (refl, λ x. elim x as (λ y. next (place_in y false) b ≡ place_in y false) [ Closed i j o ↦ ap string e | Broken i j ↦ refl ])
 
 pub grows : (s : List ℕ) (t : Reading) → t.at ≤ end_at (read_of s t)
 grows [] t = omega arith
