@@ -4,7 +4,6 @@ use Rattle.token.specs.Kind.{newline_kind, left_paren_kind, right_paren_kind, le
 use Rattle.records.specs.Messages.{expected_variable_name, expected_left_curly, expected_right_curly, expected_function_name, expect_paren_after_name, max_parameters, expected_parameter, expect_paren_after_expression, expected_paren_after_name, expect_parameter, expected_semicolon, empty_or_let, expected_in, expected_catch, only_inside_loop, expected_end_of_list, expected_end_of_dict, expected_colon_after_key, undefined_statement, expected_end_of_slice, expected_property_name, expect_paren_after_arguments, max_arguments, undefined_expression, super_only_for_property}
 use Rattle.records.specs.Outcomes.{fatal_stop, out_of_fuel, too_deep}
 use Rattle.records.specs.declared.Node as rows
-use Rattle.parser.specs.declared.State.{State}
 use Rattle.parser.specs.declared.Form.{Form}
 use Rattle.parser.specs.declared.Form.TheVariants.{Other, Empty, Name, Property}
 use Rattle.parser.specs.declared.Found.{Found}
