@@ -5,9 +5,8 @@ use Rattle.records.specs.Messages.{expected_variable_name, expected_right_curly,
 use Rattle.parser.specs.Tokens.{View}
 use Rattle.parser.specs.declared.Found.{Found}
 use Rattle.parser.specs.declared.Form.TheVariants.{Empty}
-use Rattle.parser.specs.Tables.{plain}
 use Rattle.parser.specs.Nodes.{row, var_row, list_row, dictionary_row, call_row, grouping_row, get_row, empty_row, class_row, classic_for_row}
-use Rattle.parser.specs.Programs.{Reader, Which, Declaration, Prog, give, stop, ◌>>=◌, ◌>>◌, look, node, fail, fail_at, consume, require, leave_loop, inside_loop, down, run}
+use Rattle.parser.specs.Programs.{Reader, Declaration, Prog, give, ◌>>=◌, ◌>>◌, look, node, fail_at, consume, require, leave_loop, inside_loop, down, run}
 use Rattle.parser.specs.Grammar.{nothing, expression, named, property, parameters, function_body, lower}
 
 -- a program with so many levels left

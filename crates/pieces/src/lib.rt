@@ -553,6 +553,7 @@ pub fn empty(nodes: &mut [u32], p: State) -> Out
 }
 
 // Which of `primary`'s first tests finds a literal's token of this kind; 0 if none does.
+#[tactic(auto, unfolding(crate::specs::Pieces::place_in))]
 pub fn literal_place(kind: u32) -> u32
     ensures { result ≡ place_in 1 literals kind }
 {
@@ -567,6 +568,7 @@ pub fn literal_place(kind: u32) -> u32
 }
 
 // Which of `unary`'s tests finds a prefix operator of this kind; 0 if none does.
+#[tactic(auto, unfolding(crate::specs::Pieces::place_in))]
 pub fn prefix_place(kind: u32) -> u32
     ensures { result ≡ place_in 1 prefixes kind }
 {
@@ -578,6 +580,7 @@ pub fn prefix_place(kind: u32) -> u32
 }
 
 // Which of `call`'s tests finds what goes on with an expression, of this kind; 0 if none does.
+#[tactic(auto, unfolding(crate::specs::Pieces::place_in))]
 pub fn suffix_place(kind: u32) -> u32
     ensures { result ≡ place_in 1 suffixes kind }
 {

@@ -1,0 +1,10 @@
+use Rattle.parser.specs.Programs.{run}
+use Rattle.pieces.proofs.end_class.Goals as goal
+
+pub returns-in_default : goal.returns-in_default
+unfolding run
+returns-in_default c = λ low. rw (← c.consume-c.ensures c.args.nodes.now, c.in_default.is)
+
+pub returns : goal.returns
+unfolding run
+returns c = λ low. rw (← c.consume-c.ensures c.args.nodes.now, c.in-Node.is) (rw (← c.row.ensures, ← c.make.ensures c.consume-c.new.errors))
