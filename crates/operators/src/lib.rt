@@ -25,6 +25,7 @@ pub struct Tried {
 }
 
 // The level of a binary operator, loosest 1 to tightest 7; 0 for any other kind.
+#[tactic(auto, unfolding(crate::specs::Operators::rank_in, pieces::specs::Pieces::among))]
 pub fn rank_of(kind: u32) -> u32
     ensures { result ≡ rank_in 1 levels kind }
 {
@@ -48,6 +49,7 @@ pub fn rank_of(kind: u32) -> u32
 }
 
 // How many operators the loosest so many levels have: the tests that are made where none is found.
+#[tactic(auto, unfolding(crate::specs::Operators::tests_of))]
 fn tests_of(level: u32) -> u32
     ensures { result ≡ tests_of levels level }
 {
@@ -64,6 +66,7 @@ fn tests_of(level: u32) -> u32
 }
 
 // How many of the tests come after the one that finds this operator, the tightest level's first; all of them for any other kind.
+#[tactic(auto, unfolding(crate::specs::Operators::behind_in, pieces::specs::Pieces::among, pieces::specs::Pieces::place_in))]
 fn behind_of(kind: u32) -> u32
     ensures { result ≡ behind_in 0 levels kind }
 {
