@@ -1,5 +1,5 @@
 -- Numbers (docs/RULES.md, 'Numbers'), lexing's rule 4: a number is digits, then if a point follows, the point and further digits, perhaps none.
-use Rattle.std.specs.Prelude.{ℕ, suc, ◌+◌, ◌-◌, ◌*◌, ◌^◌, Bool, true, false, ◌&&◌, cond, List, [], ◌∷◌, leb, ltb, eqb, length, take, drop}
+use Rattle.std.specs.Prelude.{ℕ, suc, ◌+◌, ◌-◌, ◌*◌, ◌^◌, false, ◌&&◌, cond, List, [], ◌∷◌, leb, ltb, eqb, length, take, drop}
 use Rattle.spans.specs.Span.{is_digit, run}
 use Rattle.numbers.specs.declared.Numeral.{Numeral}
 
