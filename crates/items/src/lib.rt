@@ -155,6 +155,7 @@ fn string(s: &[u8], i: usize) -> Item
 }
 
 // What the byte c is, if it is no letter and no digit.
+#[tactic(auto, unfolding(crate::specs::Items::sign_of))]
 pub fn sign_of(c: u8) -> Sign
     ensures { result ≡ sign_of c }
 {
