@@ -7,7 +7,6 @@ use Rattle.literal.specs.declared.Words.{Words}
 use Rattle.literal.specs.declared.Literal.TheVariants as literals
 use Rattle.literal.specs.Value.{value_of, words_of}
 use Rattle.records.specs.declared.TokenData.{TokenData}
-use Rattle.records.specs.Table.{room, token_width, error_width}
 use Rattle.records.specs.Words.{token_words, error_words}
 use Rattle.records.specs.Outcomes.{ended, number_at_end, not_text, too_long, no_token_room, no_error_room, wrong_rule}
 use Rattle.rules.specs.Rules.{known}

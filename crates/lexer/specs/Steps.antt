@@ -2,7 +2,6 @@
 -- Items and Lex are enough to know what the lexer means. It is proved that this file says the same as Lex.
 use Rattle.std.specs.Prelude.{ℕ, ◌+◌, ◌≤◌, ◌≡◌, Bool, true, false, not, ◌&&◌, List, [], ◌∷◌, ltb, eqb}
 use Rattle.token.specs.Kind as kinds
-use Rattle.literal.specs.declared.Span.{Span}
 use Rattle.literal.specs.declared.Words.{Words}
 use Rattle.literal.specs.declared.Literal.TheVariants as literals
 use Rattle.literal.specs.Value.{value_of, words_of}
