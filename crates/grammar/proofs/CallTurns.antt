@@ -1,6 +1,5 @@
 -- A turn of `call` by the kind of the next token. Assumes nothing.
 use mathlib.Core.Path.{◌≡◌, refl, sym, ap, ◌∙◌}
-use mathlib.Core.Bool.{true, false}
 use mathlib.Core.List.{List, [], ◌∷◌}
 use Prim.Native.Nat.{ℕ, suc}
 use native.Mathlib.Omega.{arith}
@@ -11,7 +10,7 @@ use Rattle.parser.specs.declared.Found.{Found}
 use Rattle.parser.specs.declared.Got.TheVariants.{Node}
 use Rattle.parser.specs.Tables.{Reply, reply, moved, looked, plain, and_then, require_at, push_node}
 use Rattle.parser.specs.Nodes.{get_row}
-use Rattle.parser.specs.Programs.{Which, Reader, Prog, give, ◌>>=◌, node, require, run}
+use Rattle.parser.specs.Programs.{Which, Reader, give, ◌>>=◌, node, require, run}
 use Rattle.parser.specs.Grammar.{property, finish_call, access, call_from}
 use Rattle.pieces.specs.Pieces.{get, place_in, suffixes}
 use Rattle.pieces.proofs.NextKind.{Next, Row, picked, by_kind, by_none, of_none}

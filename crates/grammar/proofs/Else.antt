@@ -1,21 +1,17 @@
 -- Where the statements of an `else` end the brace is there, so the `consume` after them finds it: they are a block, and one look more. Assumes nothing.
 use mathlib.Core.Path.{◌≡◌, refl, sym, ap, ◌∙◌}
-use mathlib.Core.Bool.{Bool, true, false}
 use mathlib.Core.List.{List}
 use Prim.Native.Nat.{ℕ, zero, suc}
 use native.Mathlib.Omega.{arith}
 use Rattle.records.specs.Table.{linked}
-use lib.Dec.{eqb}
-use borrow.Author.Tests.{eqb-true, eq-eqb, ne_eqb, eqb-false}
 use Rattle.token.specs.Kind.{right_curly_brace_kind}
 use Rattle.parser.specs.declared.State.{State}
 use Rattle.parser.specs.declared.Found.{Found}
-use Rattle.parser.specs.declared.Got.TheVariants.{Node}
 use Rattle.parser.specs.declared.Seen.{Seen}
 use Rattle.parser.specs.declared.Seen.TheVariants.{At, Nothing}
-use Rattle.parser.specs.Tokens.{View, kind_at, after, skip_lines, seen_if, check_at, matches_at}
-use Rattle.parser.specs.Tables.{Reply, reply, moved, looked, if_seen, and_then, plain, consume_at}
-use Rattle.parser.specs.Programs.{Which, Reader, Declaration, Prog, give, ◌>>=◌, ◌>>◌, consume, link, down, run}
+use Rattle.parser.specs.Tokens.{View, kind_at, after, skip_lines, check_at, matches_at}
+use Rattle.parser.specs.Tables.{Reply, looked, and_then, consume_at}
+use Rattle.parser.specs.Programs.{Which, Reader, Declaration, Prog, give, ◌>>=◌, ◌>>◌, consume, run}
 use Rattle.parser.specs.Grammar.{block_from, else_from, first_of}
 use Rattle.parser.proofs.Look.{skip_end, check_found}
 use Rattle.progress.proofs.Leaf.{check_at_lem}

@@ -7,7 +7,7 @@ use Rattle.parser.specs.Tokens.{View}
 use Rattle.parser.specs.declared.State.{State}
 use Rattle.parser.specs.Tables.{Reply, moved, looked}
 use Rattle.parser.specs.Nodes.{block_row}
-use Rattle.parser.specs.Programs.{Which, Reader, Prog, ◌>>=◌, node, run}
+use Rattle.parser.specs.Programs.{Which, Reader, ◌>>=◌, node, run}
 use Rattle.parser.specs.Grammar.{block, expression_stmt, fn_stmt, class, let_stmt, for_loop, try_catch, if_stmt, ret, brk, cont, while_stmt, statement, declaration}
 use Rattle.pieces.proofs.NextKind.{Next, Row, picked, by_kind, by_none}
 
