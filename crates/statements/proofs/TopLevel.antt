@@ -1,5 +1,5 @@
 -- A turn of `parse`, in the form that the code's facts have. Assumes nothing.
-use mathlib.Core.Path.{◌≡◌, refl, sym, ap, subst, ◌∙◌}
+use mathlib.Core.Path.{◌≡◌, sym, ap, subst, ◌∙◌}
 use mathlib.Core.Bool.{Bool, true, false}
 use mathlib.Core.List.{List}
 use Prim.Native.Nat.{ℕ, suc, ◌<◌}
@@ -9,7 +9,6 @@ use Rattle.parser.specs.declared.State.{State}
 use Rattle.parser.specs.declared.Found.{Found}
 use Rattle.parser.specs.declared.Got.{Got}
 use Rattle.parser.specs.declared.Got.TheVariants.{Node, Stop}
-use Rattle.parser.specs.declared.Parsed as answers
 use Rattle.parser.specs.Tokens.{View, count, kind_at}
 use Rattle.parser.specs.Tables.{Reply, reply}
 use Rattle.parser.specs.Grammar.{first_of}
