@@ -1,8 +1,7 @@
 //! Makes Rust of the text of the crates, so that the same text can be timed as rustc compiles it.
 //!
 //! The two languages share all forms that the crates use. So the edits are few: what is there for
-//! the prover goes, a crate becomes a module, a type is copied as Rattle copies it, and what is
-//! exported is not, since the library has those names.
+//! the prover goes, and a crate becomes a module.
 
 use std::path::Path;
 use std::{env, fs};
@@ -50,16 +49,19 @@ fn rust(text: &str) -> String {
         let (line, behind) = rest.split_at(end);
         rest = behind;
         match line.trim_start() {
-            clause if clause.starts_with("ensures {") || clause.starts_with("requires {") => {
+            clause if clause.starts_with("ensures ") || clause.starts_with("requires ") => {
                 rest = behind_clause(line, behind);
             }
             ghost if ghost.starts_with("ghost ") => {}
-            export if export.starts_with("#[no_mangle]") => {}
-            _ => out += &edited(line),
+            told if TOLD.iter().any(|start| told.starts_with(start)) => {}
+            _ => out += line,
         }
     }
     out
 }
+
+/// How the attributes begin that only the prover reads.
+const TOLD: [&str; 3] = ["#![tactic(", "#[tactic(", "#[cycle("];
 
 /// What follows a clause that begins on this line and may go on after it: braces are in pairs.
 fn behind_clause<'a>(line: &str, behind: &'a str) -> &'a str {
@@ -77,14 +79,4 @@ fn behind_clause<'a>(line: &str, behind: &'a str) -> &'a str {
 fn braces(line: &str) -> i32 {
     let count = |brace| line.matches(brace).count() as i32;
     count('{') - count('}')
-}
-
-/// A line of code: a type gets leave to be copied, and nothing is exported.
-fn edited(line: &str) -> String {
-    let starts = ["pub struct ", "struct ", "pub enum ", "enum "];
-    let line = line.replace("extern \"C\" ", "");
-    if starts.iter().any(|start| line.starts_with(start)) {
-        return format!("#[derive(Clone, Copy)]\n{line}");
-    }
-    line
 }

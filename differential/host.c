@@ -1,9 +1,6 @@
 /*
  * Serves calls of the Rattle library: requests on standard input, answers on standard output.
  *
- * The library's archive is for x86-64. As a program of its own this file can be run by an emulator
- * where the machine is another one, while the test that asks is built for that machine.
- *
  * A request is eight 32-bit words, lowest byte first:
  *   1, length, behind, 0, 0, 0, 0, 0      sets the source; its bytes follow; no answer
  *   2, token words, error words, fill, rule, 0, 0, 0
@@ -25,8 +22,6 @@
  * way are those that were set; after 13, which is no final answer, if the parser is as it was set, and
  * the read answered 18 and changed nothing. The count is that of the answers 19: tokens, errors, nodes,
  * first statement and looks of each follow. After 4 they are 1 and 0.
- *
- * No header of the C library is included: the toolchain's compiler comes without them.
  */
 #include "kettleplume.h"
 

@@ -1,9 +1,9 @@
 //! Proves the Rattle crates, or finds that they were proved, and links the static libraries made of
 //! them.
 //!
-//! `rt staticlib NAME` proves a crate with all that it uses and writes an archive for x86-64. For a
-//! program that is built for x86-64 that archive is linked as it is. On aarch64 the module that the
-//! toolchain hands to its compiler is compiled once more, for this machine (`build/toolchain.rs`).
+//! `rt lib` in a crate's folder proves it with all that it uses and writes an archive, for x86-64 Linux
+//! as all that the toolchain makes. A crate is a library for other crates or a static library, and the
+//! name of an archive is the one that C callers have: that of the crate `reader_c` is `libreader.a`.
 //!
 //! What was proved is kept in the repository's own `target-cargo/proved`, in whatever folder cargo
 //! builds: so another profile, `cargo doc`, `cargo install` and a program elsewhere that depends on
@@ -30,10 +30,10 @@ mod toolchain;
 use files::{renewed, Had};
 use kept::Kept;
 use key::Sources;
-use toolchain::{Kit, Machine};
+use toolchain::Kit;
 
-/// The crates whose exported functions are linked.
-const EXPORTS: [&str; 2] = ["reader", "pair"];
+/// The crates whose exported functions are linked, each with the name of its archive.
+const EXPORTS: [(&str, &str); 2] = [("reader_c", "reader"), ("pair", "pair")];
 
 fn main() {
     link().unwrap_or_else(|what| {
@@ -43,7 +43,7 @@ fn main() {
 }
 
 fn link() -> Had<()> {
-    let machine = Machine::of_the_build()?;
+    toolchain::fits_the_build()?;
     let root = given("CARGO_MANIFEST_DIR").join("..");
     let out = given("OUT_DIR");
     let kit = Kit::find()?;
@@ -53,18 +53,18 @@ fn link() -> Had<()> {
     let _alone = kept.alone();
     let sources = Sources::of(&root)?;
     sources.watch();
-    let key = key::text(&sources, &kit, machine)?;
+    let key = key::text(&sources, &kit)?;
     if !kept.fetch(&key, &out) {
-        make(&root, &kit, machine, &out)?;
+        make(&root, &kit, &out)?;
         // What was written while the prover ran may not be what it read.
-        if key::text(&Sources::of(&root)?, &kit, machine)? != key {
+        if key::text(&Sources::of(&root)?, &kit)? != key {
             return Err("the sources were changed while they were proved: build again".to_string());
         }
         if let Err(what) = kept.keep(&key, &out) {
             println!("cargo::warning=what was proved is linked, but can't be kept: {what}");
         }
     }
-    for name in EXPORTS {
+    for (_, name) in EXPORTS {
         println!("cargo::rustc-link-lib=static=kettleplume_{name}");
     }
     println!(
@@ -81,8 +81,8 @@ fn given(name: &str) -> PathBuf {
     PathBuf::from(env::var_os(name).unwrap_or_else(|| panic!("cargo gives {name}")))
 }
 
-/// The folder of what is linked, and of the archives as `rt` writes them. They are apart so that no
-/// `-l` of another crate finds an archive by the short name that `rt` gives it.
+/// The folder of what is linked, and of the archives under the names that C callers have. They are apart
+/// so that no `-l` of another crate finds an archive by its short name.
 const LIBRARIES: &str = "lib";
 const ARCHIVES: &str = "archives";
 
@@ -98,22 +98,17 @@ fn archive(name: &str) -> PathBuf {
 fn made() -> impl Iterator<Item = PathBuf> {
     EXPORTS
         .into_iter()
-        .flat_map(|name| [library(name), archive(name)])
+        .flat_map(|(_, name)| [library(name), archive(name)])
 }
 
 /// Proves, and makes all files in a folder.
-fn make(root: &Path, kit: &Kit, machine: Machine, out: &Path) -> Had<()> {
+fn make(root: &Path, kit: &Kit, out: &Path) -> Had<()> {
     renewed(&out.join(LIBRARIES))?;
     renewed(&out.join(ARCHIVES))?;
-    for name in EXPORTS {
-        let (library, archive) = (out.join(library(name)), out.join(archive(name)));
-        match machine {
-            Machine::X86 => {
-                kit.archive(root, name, &kit.home, &archive)?;
-                files::copied(&archive, &library)?;
-            }
-            Machine::Arm => kit.compile(root, name, &out.join("kit"), &archive, &library)?,
-        }
+    for (proved, name) in EXPORTS {
+        let archive = out.join(archive(name));
+        kit.archive(root, proved, &archive)?;
+        files::copied(&archive, &out.join(library(name)))?;
     }
     Ok(())
 }

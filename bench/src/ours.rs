@@ -34,14 +34,14 @@ impl Reader for SameText {
     // The library is reached by a call too.
     #[inline(never)]
     fn scan(source: &[u8], tokens: &mut [u32], errors: &mut [u32]) -> [u32; 3] {
-        let s = same::reader::kettleplume_scan(rule::ONE, source, tokens, errors);
+        let s = same::lexer::scan(rule::ONE, source, tokens, errors);
         [s.outcome, s.tokens, s.errors]
     }
 
     #[inline(never)]
     fn read(source: &[u8], [tokens, errors, nodes, index]: [&mut [u32]; 4]) -> [u32; 5] {
         let (rule, way) = (rule::ONE, way::GO_ON);
-        let a = same::reader::kettleplume_read(rule, way, source, tokens, errors, nodes, index);
+        let a = same::reader::read(rule, way, source, tokens, errors, nodes, index);
         [a.outcome, a.tokens, a.errors, a.nodes, a.first]
     }
 }

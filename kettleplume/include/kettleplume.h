@@ -1,9 +1,9 @@
 /*
  * The proved reader for C and C++, on x86-64 Linux.
  *
- * `rt staticlib reader` and `rt staticlib pair` prove the library and write target/staticlib/libreader.a
- * (kettleplume_read, kettleplume_scan, kettleplume_decode) and libpair.a (kettleplume_begin,
- * kettleplume_next). They allocate nothing. Of the C library they need memset alone, which the compiler puts
+ * `make archives` proves the library and writes target/staticlib/libreader.a (kettleplume_read,
+ * kettleplume_scan, kettleplume_decode) and libpair.a (kettleplume_begin, kettleplume_next). They are
+ * what `rt lib` makes of crates/reader_c and crates/pair. They allocate nothing. Of the C library they need memset alone, which the compiler puts
  * in.
  *
  * A table is lent as a pointer and a length. The length counts elements: bytes of a source or a buffer,

@@ -108,7 +108,7 @@ pub fn read(
 ) -> Answer {
     // Each pointer and its length are one slice's, and the three tables and the index are lent alone.
     unsafe {
-        c::kettleplume_read(
+        kettleplume_read(
             rule,
             way,
             source.as_ptr(),
@@ -177,7 +177,7 @@ impl Parser {
         nodes: &mut [u32],
         index: &mut [u32],
     ) -> Answer {
-        self.call(c::kettleplume_begin, source, tokens, errors, nodes, index)
+        self.call(kettleplume_begin, source, tokens, errors, nodes, index)
     }
 
     /// Reads one top-level statement, over the source, the tables and the index as the last call left
@@ -197,7 +197,7 @@ impl Parser {
         nodes: &mut [u32],
         index: &mut [u32],
     ) -> Answer {
-        self.call(c::kettleplume_next, source, tokens, errors, nodes, index)
+        self.call(kettleplume_next, source, tokens, errors, nodes, index)
     }
 
     fn call(
@@ -228,7 +228,23 @@ impl Parser {
     }
 }
 
+// A slice is two parameters, so there are many.
+#[allow(clippy::too_many_arguments)]
 extern "C" {
+    fn kettleplume_read(
+        rule: u32,
+        way: u32,
+        source: *const u8,
+        length: usize,
+        tokens: *mut u32,
+        token_words: usize,
+        errors: *mut u32,
+        error_words: usize,
+        nodes: *mut u32,
+        node_words: usize,
+        index: *mut u32,
+        index_words: usize,
+    ) -> Answer;
     fn kettleplume_scan(
         rule: u32,
         source: *const u8,
@@ -245,63 +261,36 @@ extern "C" {
         buffer: *mut u8,
         room: usize,
     ) -> Decoded;
-}
-
-/// The functions that answer with an `Answer`, which is returned in memory. On x86-64 that is C's way
-/// and theirs; compiled for another machine they keep to it, and the place is their first parameter.
-macro_rules! answering {
-    ($($name:ident($($parameter:ident: $type:ty),*);)*) => {
-        // A slice is two parameters, so there are many.
-        #[allow(clippy::too_many_arguments)]
-        mod c {
-            use super::{Answer, Parser};
-
-            mod at {
-                use super::{Answer, Parser};
-
-                extern "C" {
-                    $(#[cfg(target_arch = "x86_64")]
-                    pub fn $name($($parameter: $type),*) -> Answer;
-                    #[cfg(not(target_arch = "x86_64"))]
-                    pub fn $name(answer: *mut Answer, $($parameter: $type),*);)*
-                }
-            }
-
-            $(#[cfg(target_arch = "x86_64")]
-            pub unsafe fn $name($($parameter: $type),*) -> Answer {
-                at::$name($($parameter),*)
-            }
-
-            #[cfg(not(target_arch = "x86_64"))]
-            pub unsafe fn $name($($parameter: $type),*) -> Answer {
-                let mut answer = Answer::default();
-                at::$name(&mut answer, $($parameter),*);
-                answer
-            })*
-        }
-    };
-}
-
-answering! {
-    kettleplume_read(
-        rule: u32, way: u32, source: *const u8, length: usize, tokens: *mut u32, token_words: usize,
-        errors: *mut u32, error_words: usize, nodes: *mut u32, node_words: usize,
-        index: *mut u32, index_words: usize
-    );
-    kettleplume_begin(
-        parser: *mut Parser, source: *const u8, length: usize, tokens: *mut u32, token_words: usize,
-        errors: *mut u32, error_words: usize, nodes: *mut u32, node_words: usize,
-        index: *mut u32, index_words: usize
-    );
-    kettleplume_next(
-        parser: *mut Parser, source: *const u8, length: usize, tokens: *mut u32, token_words: usize,
-        errors: *mut u32, error_words: usize, nodes: *mut u32, node_words: usize,
-        index: *mut u32, index_words: usize
-    );
+    fn kettleplume_begin(
+        parser: *mut Parser,
+        source: *const u8,
+        length: usize,
+        tokens: *mut u32,
+        token_words: usize,
+        errors: *mut u32,
+        error_words: usize,
+        nodes: *mut u32,
+        node_words: usize,
+        index: *mut u32,
+        index_words: usize,
+    ) -> Answer;
+    fn kettleplume_next(
+        parser: *mut Parser,
+        source: *const u8,
+        length: usize,
+        tokens: *mut u32,
+        token_words: usize,
+        errors: *mut u32,
+        error_words: usize,
+        nodes: *mut u32,
+        node_words: usize,
+        index: *mut u32,
+        index_words: usize,
+    ) -> Answer;
 }
 
 /// A call of the pair.
-type Lent = unsafe fn(
+type Lent = unsafe extern "C" fn(
     *mut Parser,
     *const u8,
     usize,

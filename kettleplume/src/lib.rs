@@ -6,7 +6,7 @@
 //! turns records into the original's own types, which are compiled from its own files: [`token`],
 //! [`expr`], [`stmt`] and [`state`].
 //!
-//! It is built with the Rattle toolchain's `rt` on the `PATH`, for Linux on x86-64 or aarch64, and
+//! It is built with the Rattle toolchain's `rt` on the `PATH`, for x86-64 Linux, and
 //! needs nothing else beyond the standard library. The first build proves for minutes. What it proved is
 //! kept in the repository, and linked by every later build that it fits.
 //!

@@ -16,7 +16,7 @@ pub struct Rooms {
 
 impl Rooms {
     /// Room enough for every source of so many bytes, so that no reading of one ends with 5, 6, 7 or 10:
-    /// a theorem, `rooms-enough` of the Rattle crate `enough`. Why so many:
+    /// a theorem, `rooms_enough` of the Rattle crate `enough`. Why so many:
     ///
     /// - A token is at least a byte long, and tokens don't overlap; the added Newline and EOF
     ///   are empty. So `length + 2` tokens.

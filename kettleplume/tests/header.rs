@@ -139,7 +139,6 @@ fn the_functions_are_the_crates() {
 }
 
 /// As C99 and as C11, which also looks at the sizes.
-#[cfg(target_arch = "x86_64")]
 #[test]
 fn the_header_is_c() {
     for standard in ["-std=c99", "-std=c11"] {

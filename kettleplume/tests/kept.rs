@@ -11,34 +11,30 @@ use std::path::{Path, PathBuf};
 use std::process::{self, Command, Output};
 use std::sync::atomic::{AtomicUsize, Ordering};
 
-/// What stands for `rt`. It runs the compiler of the toolchain on aarch64, as `rt` does, since the script
-/// takes the module from there.
+/// What stands for `rt`.
 const RT: &str = r#"#!/bin/sh
 kit=$(dirname "$(dirname "$0")")
 case $1 in
 version) cat "$kit/KIT-ID" ;;
-staticlib)
-    echo "$2" >>"$kit/calls"
-    echo "rt: $2 is looked at"
+lib)
+    name=$(basename "$PWD")
+    echo "$name" >>"$kit/calls"
+    echo "rt: $name is looked at"
     if [ -e "$kit/meanwhile" ]; then . "$kit/meanwhile"; fi
-    clang=$RATTLE_HOME/on/aarch64/toolchain/bin/clang
-    if [ -x "$clang" ]; then mkdir -p target && : >target/module.bc && "$clang" target/module.bc; fi
-    mkdir -p target/staticlib
-    printf '!<arch>\n' >"target/staticlib/lib$2.a" ;;
+    mkdir -p out
+    printf '!<arch>\n' >"out/lib$name.a" ;;
 esac
 "#;
-/// The two tools that the script calls itself on aarch64.
-const CLANG: &str = "#!/bin/sh\nfor word; do case $word in *.o) : >\"$word\" ;; esac; done\n";
-const LLVM_AR: &str = "#!/bin/sh\nprintf '!<arch>\\n' >\"$2\"\n";
 
 /// The list of crates: two that are linked, what they use, and one that they don't.
-const LIST: &str = "base:\nreader: base # the whole\npair: base\napart: base\n";
+const LIST: &str =
+    "base:\nwhole: base\nreader_c staticlib: whole base # for C\npair staticlib: base\napart: base\n";
 
 /// The files of a crate that are proved, or that a proof needs.
-const FILES: [&str; 3] = ["src/lib.rt", "specs/Spec.antt", "proofs/deep/Proof.antt"];
+const FILES: [&str; 3] = ["src/lib.rt", "specs/Spec.antt", "proofs/deep/Answers.antt"];
 
 /// A proof of both crates.
-const PROVED: [&str; 2] = ["reader", "pair"];
+const PROVED: [&str; 2] = ["reader_c", "pair"];
 const NOTHING: [&str; 0] = [];
 
 /// A folder with a repository, a toolchain and cargo's folders. It is outside of this repository, where
@@ -96,14 +92,12 @@ impl Place {
         place.crates();
         place.write("kit/KIT-ID", "a toolchain\n");
         place.tool("bin/rt", RT);
-        place.tool("on/aarch64/toolchain/bin/clang", CLANG);
-        place.tool("on/aarch64/toolchain/bin/llvm-ar", LLVM_AR);
         place
     }
 
     fn crates(&self) {
         self.write("repo/crates.txt", LIST);
-        for name in ["base", "reader", "pair", "apart"] {
+        for name in ["base", "whole", "reader_c", "pair", "apart"] {
             for file in FILES.into_iter().chain(["must-fail/a.edit"]) {
                 self.write(&format!("repo/crates/{name}/{file}"), name);
             }
@@ -139,8 +133,7 @@ impl Place {
             .arg(self.at(target))
             .current_dir(self.at(folder))
             .env("PATH", self.path("nothing"))
-            .env_remove("OUT_DIR")
-            .env_remove("RATTLE_HOME");
+            .env_remove("OUT_DIR");
         command
     }
 
@@ -234,7 +227,7 @@ fn another_source_is_proved() {
     for file in [
         "src/lib.rt",
         "specs/Spec.antt",
-        "proofs/deep/Proof.antt",
+        "proofs/deep/Answers.antt",
         "proofs/must-fail/New.antt",
     ] {
         let path = format!("repo/crates/base/{file}");
@@ -249,14 +242,14 @@ fn another_source_is_proved() {
     }
     place.write(
         "repo/crates.txt",
-        &LIST.replace("pair: base", "pair: base reader"),
+        &LIST.replace("pair staticlib: base", "pair staticlib: base whole"),
     );
     assert_eq!(place.check(), PROVED);
     // What isn't linked is no matter, and neither are wrong versions and comments.
     place.write(
         "repo/crates.txt",
         &LIST
-            .replace("whole", "reading")
+            .replace("for C", "for Rust and C")
             .replace("apart: base", "apart:"),
     );
     place.write("repo/crates/apart/src/lib.rt", "other");
@@ -299,14 +292,14 @@ fn what_is_not_proved_is_not_kept() {
     let place = Place::new();
     // Archives of an earlier proof are there.
     for name in PROVED {
-        place.write(&format!("repo/target/staticlib/lib{name}.a"), "!<arch>\n");
+        place.write(&format!("repo/crates/{name}/out/lib{name}.a"), "!<arch>\n");
     }
     place.write("kit/meanwhile", "echo 'rt: FAILED'; exit 1");
     let said = fails(&mut place.cargo(&["check"]));
     assert!(said.contains("rt: FAILED"), "{said}");
     assert_eq!(
         (place.calls(), place.kept()),
-        (vec!["reader".to_string()], vec![])
+        (vec!["reader_c".to_string()], vec![])
     );
     // Nor are they taken because `rt` doesn't complain.
     place.write("kit/meanwhile", "exit 0");
@@ -314,7 +307,7 @@ fn what_is_not_proved_is_not_kept() {
     assert_eq!(place.kept(), Vec::<PathBuf>::new());
     place.calls();
     // A source that is changed during the proof.
-    place.write("kit/meanwhile", "echo changed >>crates/base/src/lib.rt");
+    place.write("kit/meanwhile", "echo changed >>../base/src/lib.rt");
     let said = fails(&mut place.cargo(&["check"]));
     assert!(said.contains("changed while they were proved"), "{said}");
     assert_eq!(place.kept(), Vec::<PathBuf>::new());

@@ -2,30 +2,31 @@
 // has the right answers. The Rust crate `vectors` makes it with the scripts.
 #![tactic(auto)]
 
-fn main() {
+use std::fs;
+use std::io::{Result, Write};
+
+fn main(rt: HostRuntime) -> Result<()> {
     for i in 0..SCRIPTS {
-        script(i);
+        script(&rt, i)?;
     }
+    Ok(())
 }
 
 // The scripts are a.gr, b.gr and so on.
 const SCRIPTS: u8 = 22;
 
-fn script(i: u8) {
-    let path = [letter(i), b'.', b'g', b'r'];
-    let file = os::open_read(&path);
-    let mut input = [0u8; 4097];
-    let n = io::read_full(file, &mut input);
-    libc::close(file);
-    print(&input[..n]);
+fn script(rt: &HostRuntime, i: u8) -> Result<()> {
+    let path = format!(in rt.alloc(); "{}.gr", letter(i) as char)?;
+    let source = fs::read(rt, path.as_str())?;
+    print(rt, &source)
 }
 
 fn letter(i: u8) -> u8 {
     if i < 26 { b'a' + i } else { b'z' }
 }
 
-fn print(source: &[u8]) {
+fn print(rt: &HostRuntime, source: &[u8]) -> Result<()> {
     let mut out = [0u8; form::OUTLINE_BYTES];
     let n = form::outline(source, &mut out);
-    io::write_all(1, &out[..n]);
+    rt.stdout().write_all(&out[..n])
 }

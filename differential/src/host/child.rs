@@ -1,11 +1,7 @@
 //! Builds `host.c` with the library's archives and talks to it as a child process.
 //!
-//! The archives are for x86-64. There the system's `cc` links them; elsewhere the toolchain's own
-//! compiler and linker do, and its emulator runs the program. Both ways exercise the same archives
-//! and their C border. All tools are found from `rt` on the PATH.
+//! The system's `cc` links them, as a host in C does. This exercises the archives and their C border.
 
-use std::env;
-use std::ffi::OsString;
 use std::fs;
 use std::io::{self, BufReader, Read as _, Write as _};
 use std::path::{Path, PathBuf};
@@ -25,14 +21,13 @@ pub struct Child {
 impl Child {
     /// Builds the host, once in each process, and starts a child of its own.
     pub fn start() -> Child {
-        static COMMAND: OnceLock<Vec<OsString>> = OnceLock::new();
-        let words = COMMAND.get_or_init(build);
-        let mut child = Command::new(&words[0])
-            .args(&words[1..])
+        static PROGRAM: OnceLock<PathBuf> = OnceLock::new();
+        let program = PROGRAM.get_or_init(build);
+        let mut child = Command::new(program)
             .stdin(Stdio::piped())
             .stdout(Stdio::piped())
             .spawn()
-            .unwrap_or_else(|error| panic!("{words:?} doesn't start: {error}"));
+            .unwrap_or_else(|error| panic!("{program:?} doesn't start: {error}"));
         let requests = child.stdin.take();
         let answers = BufReader::with_capacity(1 << 16, child.stdout.take().expect("a pipe"));
         Child {
@@ -165,40 +160,29 @@ fn words(from: &mut BufReader<ChildStdout>, count: usize) -> io::Result<Vec<u32>
     Ok(bytes.chunks_exact(4).map(word).collect())
 }
 
-/// The two headers of C itself, for the toolchain's compiler, which comes without them.
-const BARE: &str = concat!(env!("CARGO_MANIFEST_DIR"), "/bare");
-
 /// Where the library's archives are.
 const ARCHIVES: &str = env!("KETTLEPLUME_ARCHIVES");
 
-/// Builds the host; the command that starts the host.
-fn build() -> Vec<OsString> {
-    let rt = find_rt();
+/// Builds the host; where it lies.
+fn build() -> PathBuf {
     let here = Path::new(env!("CARGO_MANIFEST_DIR"));
     let root = here.parent().expect("the crate lies in the repository");
     let archives = ["libreader.a", "libpair.a"].map(|name| Path::new(ARCHIVES).join(name));
 
-    // Below cargo's folder: `rt` removes its own. The name is this process's own until the program
-    // is complete, for two processes may build at the same time.
+    // Below cargo's folder. The name is this process's own until the program is complete, for two
+    // processes may build at the same time.
     let folder = root.join("target-cargo/differential");
     fs::create_dir_all(&folder)
         .unwrap_or_else(|error| panic!("no folder {}: {error}", folder.display()));
     let fresh = folder.join(format!("host.{}", process::id()));
     let program = folder.join("host");
-    let source = here.join("host.c");
-    let words = if env::consts::ARCH == "x86_64" {
-        run(Command::new("cc")
-            .args(given())
-            .args(["-O2", "-o"])
-            .args([&fresh, &source])
-            .args(&archives));
-        vec![program.clone().into()]
-    } else {
-        Toolchain::of(&rt).build(&source, &archives, &fresh);
-        Toolchain::of(&rt).command(&program)
-    };
+    run(Command::new("cc")
+        .args(given())
+        .args(["-O2", "-o"])
+        .args([&fresh, &here.join("host.c")])
+        .args(&archives));
     fs::rename(&fresh, &program).unwrap_or_else(|error| panic!("no {program:?}: {error}"));
-    words
+    program
 }
 
 /// What `host.c` is told: where the library's header is, and a number that has its definition in Rust.
@@ -206,69 +190,6 @@ fn given() -> [String; 3] {
     let include = concat!(env!("CARGO_MANIFEST_DIR"), "/../kettleplume/include");
     let so_far = format!("-DSO_FAR={SO_FAR}");
     ["-I".to_string(), include.to_string(), so_far]
-}
-
-/// The real path of `rt`.
-fn find_rt() -> PathBuf {
-    let path = env::var_os("PATH").unwrap_or_default();
-    env::split_paths(&path)
-        .map(|folder| folder.join("rt"))
-        .find(|file| file.is_file())
-        .and_then(|file| file.canonicalize().ok())
-        .expect("the Rattle toolchain's command `rt` isn't on the PATH, and this test needs it")
-}
-
-/// The toolchain's own compiler, linker, C library and emulator for x86-64.
-struct Toolchain(PathBuf);
-
-impl Toolchain {
-    fn of(rt: &Path) -> Toolchain {
-        let top = rt.parent().and_then(Path::parent).unwrap_or(Path::new("/"));
-        let folder = top.join("on").join(env::consts::ARCH).join("toolchain");
-        assert!(
-            folder.is_dir(),
-            "{} isn't there: no tools for x86-64 on this machine",
-            folder.display()
-        );
-        Toolchain(folder)
-    }
-
-    fn bin(&self, name: &str) -> PathBuf {
-        self.0.join("bin").join(name)
-    }
-
-    fn lib(&self, name: &str) -> PathBuf {
-        self.0.join("lib").join(name)
-    }
-
-    fn build(&self, source: &Path, archives: &[PathBuf], program: &Path) {
-        let object = program.with_extension(format!("{}.o", process::id()));
-        run(Command::new(self.bin("clang"))
-            .args(given())
-            .args(["-isystem", BARE])
-            .args(["--target=x86_64-unknown-linux-gnu", "-O2", "-c", "-o"])
-            .args([&object, source]));
-        run(Command::new(self.bin("ld.lld"))
-            .args(["-pie", "-dynamic-linker", "/lib64/ld-linux-x86-64.so.2"])
-            .arg("-o")
-            .arg(program)
-            .args(["Scrt1.o", "crti.o", "crtbeginS.o"].map(|name| self.lib(name)))
-            .arg(&object)
-            .args(archives)
-            .args(["libc.so.6", "libc_nonshared.a", "libgcc.a"].map(|name| self.lib(name)))
-            .args(["crtendS.o", "crtn.o"].map(|name| self.lib(name))));
-        let _ = fs::remove_file(object);
-    }
-
-    fn command(&self, program: &Path) -> Vec<OsString> {
-        vec![
-            self.bin("qemu-x86_64").into(),
-            self.lib("ld-linux-x86-64.so.2").into(),
-            "--library-path".into(),
-            self.0.join("lib").into(),
-            program.into(),
-        ]
-    }
 }
 
 /// Runs a tool to its end; what it printed is shown only if it fails.

@@ -370,13 +370,13 @@ fn stored() -> String {
 /// The text of the theorem about the same pairs and the reading.
 fn read() -> String {
     // What has to be computed is named as in the crate `scripts`, but for that crate's own files.
-    let named = |line: &&str| !line.starts_with("use Rattle·scripts·");
+    let named = |line: &&str| !line.starts_with("use Rattle.scripts.");
     let uses: Vec<&str> = HEAD.lines().filter(named).collect();
     format!(
         "-- The pairs of `blackout`: whether they are read alike, as the original says.\n\
              {}\n\
-             use Rattle·blackout.proofs.Pairs.{{pairs}}\n\
-             use Rattle·alike·proofs.proofs.Trials.{{answers, expected}}\n\n\
+             use Rattle.blackout.proofs.Pairs.{{pairs}}\n\
+             use Rattle.alike.proofs.Trials.{{answers, expected}}\n\n\
              agree : answers pairs ≡ expected pairs\n\
              {}\n\
              agree = refl\n",
@@ -410,17 +410,17 @@ pub fn random(count: usize, seed: u64) -> String {
 fn premise(title: &str, forms: &str, table: &str, pairs: &str) -> String {
     format!(
         "-- {title}\n\
-             use mathlib.Core.Path.{{_≡_, refl}}\n\
+             use mathlib.Core.Path.{{◌≡◌, refl}}\n\
              use mathlib.Core.Bool.{{true, false}}\n\
-             use mathlib.Core.List.{{List, [], _∷_}}\n\
-             use Rattle·token.specs.Keyword.{{keywordOf}}\n\
-             use Rattle·text.specs.Text.{{isText}}\n\
-             use Rattle·items.specs.Items.{{signOf}}\n\
-             use Rattle·blackout·specs.specs.Blackout.{{alike, blackout}}\n\
-             use Rattle·blackout·proofs.proofs.Trials.{{{forms}, premises, verdicts}}\n\n\
+             use mathlib.Core.List.{{List, [], ◌∷◌}}\n\
+             use Rattle.token.specs.Keyword.{{keyword_of}}\n\
+             use Rattle.text.specs.Text.{{is_text}}\n\
+             use Rattle.items.specs.Items.{{sign_of}}\n\
+             use Rattle.blackout.specs.Blackout.{{alike, blackout}}\n\
+             use Rattle.blackout.proofs.Trials.{{{forms}, premises, verdicts}}\n\n\
              {table}\n\n\
              agree : premises {pairs} ≡ verdicts {pairs}\n\
-             unfolding blackout alike isText keywordOf signOf\n\
+             unfolding blackout alike is_text keyword_of sign_of\n\
              agree = refl\n",
     )
 }

@@ -206,7 +206,7 @@ fn parts(cases: Vec<Case>) -> Vec<Vec<Case>> {
 
 /// A theorem: the definition answers these cases as the original does.
 fn theorem(number: usize, cases: &[Case]) -> String {
-    let mut out = format!("\nabbrev cases-{number} : List Case\ncases-{number} =\n");
+    let mut out = format!("\nabbrev cases_{number} : List Case\ncases_{number} =\n");
     for case in cases {
         let [tokens, errors, nodes, index] = case.rooms;
         // Every word of the index is compared, also where it is as it was.
@@ -227,10 +227,10 @@ fn theorem(number: usize, cases: &[Case]) -> String {
     out += "    []\n\n";
     writeln!(
         out,
-        "agree-{number} : map answer cases-{number} ≡ map expected cases-{number}"
+        "agree_{number} : map answer cases_{number} ≡ map expected cases_{number}"
     )
     .expect("a line");
-    out + UNFOLDING + &format!("agree-{number} = refl\n")
+    out + UNFOLDING + &format!("agree_{number} = refl\n")
 }
 
 /// Words, each with the sign of lists after it.
