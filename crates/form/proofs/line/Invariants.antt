@@ -1,4 +1,4 @@
-use Rattle.std.proofs.Common.{length, take, ◌-◌, ℕ, ◌≤◌, List, [], ◌∷◌, ◌++◌}
+use Rattle.std.proofs.Common.{length, take, ◌-◌, ℕ, ◌≤◌, List, ◌++◌}
 use Rattle.form.specs.Text.{Holds, fields}
 use Rattle.form.proofs.line.Given as goal
 
