@@ -5,7 +5,8 @@ Words are in snake case: `lexedOf` becomes `lexed_of`, `found-past` becomes `fou
 word's spelling too, with `_kind` after it: `kinds.And` becomes `kinds.and_kind`. Without that `True`, `Let` and `In` would fall together with words of the
 language. Types, modules, constructors, fields that come from src/, strings and the code in src/ keep their names.
 
-It stops, and writes nothing, where two names would become one, or a new name is one that is used already. A second run changes nothing.
+It stops, and writes nothing, where two names would become one, or a new name is one that is used already. It is for the text that port.py left, with no
+folder `proofs/F/` in it: there a second run changes nothing. Names of goals, which proof files have since, are not for it.
 """
 
 import collections
