@@ -23,19 +23,19 @@ returns-then-n-gt255 c = λ low.
 pub returns-in_default-k : goal.returns-in_default-k
 unfolding run parameters parameters_from
 returns-in_default-k c = λ low.
-    let h : nat_lt 255 c.loop-n.n ≡ false = le-ltb _ _ c.if-n-gt255.false in
+    let h : nat_lt 255 c.loop-n.n ≡ false = le-ltb _ _ (omega arith) in
     rw (← c.check.ensures, c.in_default.is) (rw (← c.looked-s.ensures, ← c.loop-n.invariant.same low, h, ← c.require-g.ensures c.loop-n.nodes, c.in_default-k.is))
 
 pub returns-in_default-k-2 : goal.returns-in_default-k-2
 unfolding run parameters parameters_from
 returns-in_default-k-2 c = λ low.
-    let h : nat_lt 255 c.loop-n.n ≡ false = le-ltb _ _ c.if-n-gt255.false in
+    let h : nat_lt 255 c.loop-n.n ≡ false = le-ltb _ _ (omega arith) in
     rw (← c.check.ensures, c.in_default.is) (rw (← c.looked-s.ensures, ← c.loop-n.invariant.same low, h, ← c.require-g.ensures c.loop-n.nodes, c.in-Node.is) (rw (← c.row.ensures, ← c.make-h.ensures c.require-g.new.errors, c.in_default-k-2.is)))
 
 pub returns-in_default-matches : goal.returns-in_default-matches
 unfolding run parameters parameters_from
 returns-in_default-matches c = λ low.
-    let h : nat_lt 255 c.loop-n.n ≡ false = le-ltb _ _ c.if-n-gt255.false in
+    let h : nat_lt 255 c.loop-n.n ≡ false = le-ltb _ _ (omega arith) in
     rw (← c.check.ensures, c.in_default.is) (rw (← c.looked-s.ensures, ← c.loop-n.invariant.same low, h, ← c.require-g.ensures c.loop-n.nodes, c.in-Node.is) (rw (← c.row.ensures, ← c.make-h.ensures c.require-g.new.errors, c.in-Node-k.is) (rw (← c.link.ensures, ← c.first_of-first.ensures, ← c.matches.ensures, c.in_default-matches.is) (rw (← c.looked.ensures, c.gives-in_default-matches.ensures)))))
 
 pub loop-n-smaller : goal.loop-n-smaller
@@ -52,7 +52,7 @@ again : (c : goal.After-at_token-s) (low : Which → Reader)
     ≡ run (indexed c.args.tokens.now c.args.index.now) low (parameters_from (indexed c.args.tokens.now c.args.index.now) c.args.message (suc c.loop-n.invariant.fuel) c.loop-n.n c.loop-n.first c.loop-n.last) c.loop-n.s c.loop-n.errors c.loop-n.nodes
 unfolding run parameters_from
 again c low =
-    let l : nat_lt 255 c.loop-n.n ≡ false = le-ltb _ _ c.if-n-gt255.false in
+    let l : nat_lt 255 c.loop-n.n ≡ false = le-ltb _ _ (omega arith) in
     rw (l, ← c.require-g.ensures c.loop-n.nodes, c.in-Node.is) (rw (← c.row.ensures, ← c.make-h.ensures c.require-g.new.errors, c.in-Node-k.is) (rw (← c.link.ensures, ← c.first_of-first.ensures, ← c.matches.ensures, c.in-At-matches.is) (rw (← c.at_token-s.ensures))))
 
 pub loop-n-preserved : goal.loop-n-preserved
