@@ -97,6 +97,7 @@ impl Parser {
 }
 
 // Whether none of the first n tokens is EOF.
+#[tactic(auto, using(crate::proofs::Cases::eof_there, crate::proofs::Cases::eof_not, crate::proofs::Cases::eof_none))]
 pub fn no_eof(tokens: &[u32], n: u32) -> bool
     ensures { result ≡ no_eof tokens.now n }
 {

@@ -101,6 +101,7 @@ pub fn next(tokens: &[u32], i: u32) -> u32
 }
 
 // Past the newlines: from a Newline the index leads on. A word of it that would lead back is ignored.
+#[tactic(auto, using(crate::proofs::Look::skip_word, crate::proofs::Look::skip_stays, crate::proofs::Look::skip_end))]
 fn skip(tokens: &[u32], index: &[u32], at: u32) -> u32
     ensures { result ≡ skip_lines (indexed tokens.now index.now) at }
 {
