@@ -55,16 +55,16 @@ pub fn decode(source: &[u8], start: usize, buffer: &mut [u8]) -> Decoded
     ensures { Decoding (decode_of source.now start (length buffer.old)) result buffer.old buffer.new }
 {
     if source.len() > 65535 {
-        return refuse(Outcome::TOO_LONG);
+        return refuse(Outcome::TooLong as u32);
     }
     if !text::is_text(source) {
-        return refuse(Outcome::NOT_TEXT);
+        return refuse(Outcome::NotText as u32);
     }
     if start >= source.len() {
-        return refuse(Outcome::NOT_A_STRING);
+        return refuse(Outcome::NotAString as u32);
     }
     if source[start] != b'"' {
-        return refuse(Outcome::NOT_A_STRING);
+        return refuse(Outcome::NotAString as u32);
     }
     decode_from(source, start + 1, buffer)
 }
@@ -75,14 +75,14 @@ fn decode_from(s: &[u8], from: usize, buffer: &mut [u8]) -> Decoded
 {
     let ended = strings::string(s, from);
     let Ended::Closed { length, .. } = ended else {
-        return refuse(Outcome::NOT_A_STRING);
+        return refuse(Outcome::NotAString as u32);
     };
     if buffer.len() < length {
-        return refuse(Outcome::NO_BUFFER_ROOM);
+        return refuse(Outcome::NoBufferRoom as u32);
     }
     write(s, from, buffer);
     Decoded {
-        outcome: Outcome::ENDED,
+        outcome: Outcome::Ended as u32,
         length,
     }
 }

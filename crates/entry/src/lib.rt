@@ -38,8 +38,8 @@ impl Way {
 fn outcome_on(way: u32, outcome: u32, errors: u32) -> u32
     ensures { result ≡ outcome_on way outcome errors }
 {
-    if (way == Way::STOP) & ((outcome == Outcome::ENDED) & (errors > 0)) {
-        return Outcome::NOT_PARSED;
+    if (way == Way::STOP) & ((outcome == Outcome::Ended as u32) & (errors > 0)) {
+        return Outcome::NotParsed as u32;
     }
     outcome
 }
@@ -48,13 +48,13 @@ fn outcome_on(way: u32, outcome: u32, errors: u32) -> u32
 fn index_on(tokens: &[u32], index: &mut [u32], outcome: u32, n: u32) -> u32
     ensures { Indexes tokens.now outcome n index.old result index.new }
 {
-    if outcome != Outcome::ENDED {
+    if outcome != Outcome::Ended as u32 {
         return outcome;
     }
     if lines::index_lines(tokens, index, n) {
-        return Outcome::ENDED;
+        return Outcome::Ended as u32;
     }
-    Outcome::NO_BUFFER_ROOM
+    Outcome::NoBufferRoom as u32
 }
 
 // The step from lexing to parsing: `read` begins with it, and the reading of a statement at a time. With outcome 0 what was lexed is to be parsed, and the index
@@ -74,10 +74,10 @@ pub fn enter(
     let d = lexer::scan(rule, source, tokens, errors);
     let lexed = outcome_on(way, d.outcome, d.errors);
     let outcome = index_on(tokens, index, lexed, d.tokens);
-    if (outcome != Outcome::ENDED)
-        & (outcome != Outcome::NOT_TEXT)
-        & (outcome != Outcome::TOO_LONG)
-        & (outcome != Outcome::WRONG_RULE)
+    if (outcome != Outcome::Ended as u32)
+        & (outcome != Outcome::NotText as u32)
+        & (outcome != Outcome::TooLong as u32)
+        & (outcome != Outcome::WrongRule as u32)
     {
         records::zero_rest(nodes, 0);
     }

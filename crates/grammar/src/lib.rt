@@ -759,7 +759,7 @@ pub fn declaration(
     ensures { reply result.p result.got errors.new nodes.new ≡ lower (indexed tokens.now index.now) levels Declaration p errors.old nodes.old }
 {
     if levels == 0 {
-        return parser::stopped(p, Outcome::TOO_DEEP);
+        return parser::stopped(p, Outcome::TooDeep as u32);
     }
     let at = p.current;
     let coming = parser::peek(tokens, index, at);
@@ -1276,7 +1276,7 @@ fn unary(
         let j = coming.past;
         let q = p.at_token(j, n);
         if levels == 0 {
-            return parser::stopped(q, Outcome::TOO_DEEP);
+            return parser::stopped(q, Outcome::TooDeep as u32);
         }
         let g = unary(tokens, errors, nodes, index, q, levels - 1);
         let k = g.got;
@@ -1352,7 +1352,7 @@ fn assignment(
     ensures { reply result.p result.got errors.new nodes.new ≡ lower (indexed tokens.now index.now) levels Assignment p errors.old nodes.old }
 {
     if levels == 0 {
-        return parser::stopped(p, Outcome::TOO_DEEP);
+        return parser::stopped(p, Outcome::TooDeep as u32);
     }
     let first = unary(tokens, errors, nodes, index, p, levels - 1);
     let g = binary(tokens, errors, nodes, index, first, levels - 1, 0);

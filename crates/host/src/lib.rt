@@ -59,7 +59,7 @@ impl Parser {
         ensures { result ≡ marked_as 0 goes_on self }
     {
         self.ended = 0;
-        self.outcome = Outcome::GOES_ON;
+        self.outcome = Outcome::GoesOn as u32;
         self
     }
 

@@ -46,13 +46,13 @@ pub fn scan(rule: u32, source: &[u8], tokens: &mut [u32], errors: &mut [u32]) ->
         result tokens.old tokens.new errors.old errors.new }
 {
     if !rules::is_known(rule) {
-        return refuse(Outcome::WRONG_RULE);
+        return refuse(Outcome::WrongRule as u32);
     }
     if source.len() > 65535 {
-        return refuse(Outcome::TOO_LONG);
+        return refuse(Outcome::TooLong as u32);
     }
     if !text::is_text(source) {
-        return refuse(Outcome::NOT_TEXT);
+        return refuse(Outcome::NotText as u32);
     }
     scan_tokens(rule, source, tokens, errors)
 }
@@ -135,7 +135,7 @@ fn eof(tokens: &mut [u32], l: Lexer) -> Scanned
     ensures { Ends (eof_in l tokens.old []) result tokens.new [] }
 {
     match emit_bare(tokens, l, Token::EOF, 0, 0) {
-        Next::On(m) => ends(Outcome::ENDED, m),
+        Next::On(m) => ends(Outcome::Ended as u32, m),
         Next::Stop(o) => ends(o, l),
     }
 }
@@ -205,7 +205,7 @@ fn emit_number(tokens: &mut [u32], l: Lexer, n: Numeral) -> Next
     ensures { Does (number_in n l tokens.old []) result tokens.new [] }
 {
     if n.cut {
-        return Next::Stop(Outcome::NUMBER_AT_END);
+        return Next::Stop(Outcome::NumberAtEnd as u32);
     }
     let span = Span {
         start: l.current as u32,
@@ -237,7 +237,7 @@ fn emit(tokens: &mut [u32], l: Lexer, kind: u32, size: usize, lines: usize, w: W
         },
     );
     if !room {
-        return Next::Stop(Outcome::NO_TOKEN_ROOM);
+        return Next::Stop(Outcome::NoTokenRoom as u32);
     }
     Next::On(Lexer {
         current: l.current + size,
@@ -265,7 +265,7 @@ fn set_error(errors: &mut [u32], l: Lexer, message: u32, size: usize, lines: usi
         },
     );
     if !room {
-        return Next::Stop(Outcome::NO_ERROR_ROOM);
+        return Next::Stop(Outcome::NoErrorRoom as u32);
     }
     Next::On(Lexer {
         current: l.current + size,

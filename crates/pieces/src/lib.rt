@@ -114,7 +114,7 @@ pub fn fatal(tokens: &[u32], errors: &mut [u32], p: State, message: u32, token: 
         return g;
     };
     let q = g.p;
-    parser::stopped(q, Outcome::FATAL_STOP)
+    parser::stopped(q, Outcome::FatalStop as u32)
 }
 
 // Parameters up to what is no comma; the 257th is message 10.

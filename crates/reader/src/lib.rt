@@ -21,7 +21,7 @@ pub fn read(
         result tokens.new errors.new nodes.new index.new }
 {
     let d = entry::enter(rule, way, source, tokens, errors, nodes, index);
-    if d.outcome == Outcome::ENDED {
+    if d.outcome == Outcome::Ended as u32 {
         let p = statements::parse(rule, tokens, errors, nodes, index, d.errors);
         return Answer {
             outcome: p.outcome,

@@ -1,5 +1,7 @@
 -- The outcomes of docs/RULES.md, 'Outcomes', by name.
 use Rattle.std.specs.Prelude.{ℕ}
+use Rattle.records.specs.declared.Outcome.{Outcome}
+use Rattle.records.specs.declared.Outcome.TheVariants.{Ended, FatalStop, NumberAtEnd, NotText, TooLong, NoTokenRoom, NoErrorRoom, NoNodeRoom, TooDeep, NotAString, NoBufferRoom, NotParsed, WrongRule, DoesNotFit, GoesOn}
 
 -- parsing reached EOF, errors or none
 abbrev pub ended : ℕ
@@ -64,3 +66,21 @@ goes_on = 19
 -- a definition's fuel is used up, which never happens
 abbrev pub out_of_fuel : ℕ
 out_of_fuel = 99
+
+-- the number of an outcome
+abbrev pub outcome_number : Outcome → ℕ
+outcome_number Ended = ended
+outcome_number FatalStop = fatal_stop
+outcome_number NumberAtEnd = number_at_end
+outcome_number NotText = not_text
+outcome_number TooLong = too_long
+outcome_number NoTokenRoom = no_token_room
+outcome_number NoErrorRoom = no_error_room
+outcome_number NoNodeRoom = no_node_room
+outcome_number TooDeep = too_deep
+outcome_number NotAString = not_a_string
+outcome_number NoBufferRoom = no_buffer_room
+outcome_number NotParsed = not_parsed
+outcome_number WrongRule = wrong_rule
+outcome_number DoesNotFit = does_not_fit
+outcome_number GoesOn = goes_on

@@ -4,6 +4,7 @@
 ghost use Rattle.std.specs.Prelude.{◌≡◌, min, ◌<◌};
 ghost use Rattle.records.specs.Table.{token_width, error_width, node_width, index_width, room, field, linked, zeroed, Pushed};
 ghost use Rattle.records.specs.Words.{token_words, error_words, node_words};
+ghost use Rattle.records.specs.Outcomes.{outcome_number};
 
 // The words of a token, of an error and of a node; an index has one for each token.
 pub const TOKEN_WIDTH: usize = 8;
@@ -116,55 +117,45 @@ impl Node {
     pub const NAME: u32 = 32;
 }
 
-// The outcomes of docs/RULES.md, 'Outcomes', named here once: the numbers of specs/Outcomes.antt.
-#[derive(Clone, Copy)]
-pub struct Outcome {
-    pub number: u32,
-}
-
-impl Outcome {
+// The outcomes of docs/RULES.md, 'Outcomes', in their order. `outcome_number` of specs/Outcomes.antt has each one's number, which is what an answer and a host see.
+#[derive(Clone, Copy, PartialEq, Eq, Debug)]
+pub enum Outcome {
     // The end was reached.
-    pub const ENDED: u32 = 0;
-
-    pub const FATAL_STOP: u32 = 1;
-
+    Ended = 0,
+    FatalStop = 1,
     // A number with a point runs to the last byte.
-    pub const NUMBER_AT_END: u32 = 2;
-
-    pub const NOT_TEXT: u32 = 3;
-
+    NumberAtEnd = 2,
+    NotText = 3,
     // Over 65,535 bytes.
-    pub const TOO_LONG: u32 = 4;
-
-    pub const NO_TOKEN_ROOM: u32 = 5;
-
-    pub const NO_ERROR_ROOM: u32 = 6;
-
-    pub const NO_NODE_ROOM: u32 = 7;
-
+    TooLong = 4,
+    NoTokenRoom = 5,
+    NoErrorRoom = 6,
+    NoNodeRoom = 7,
     // A level over 128 would open.
-    pub const TOO_DEEP: u32 = 8;
-
+    TooDeep = 8,
     // Decoding: no string stands there.
-    pub const NOT_A_STRING: u32 = 9;
-
+    NotAString = 9,
     // Decoding: the buffer is too short. A reading: the newline index is.
-    pub const NO_BUFFER_ROOM: u32 = 10;
-
+    NoBufferRoom = 10,
     // The new way: lexing recorded an error, so nothing is parsed.
-    pub const NOT_PARSED: u32 = 11;
-
+    NotParsed = 11,
     // The number names no rule; nothing changed.
-    pub const WRONG_RULE: u32 = 13;
-
+    WrongRule = 13,
     // The pair: what the parser holds doesn't fit what is lent.
-    pub const DOES_NOT_FIT: u32 = 18;
-
+    DoesNotFit = 18,
     // The pair: a token before EOF is left to be read.
-    pub const GOES_ON: u32 = 19;
+    GoesOn = 19,
 }
 
-// The lexer's messages. specs/Messages.antt names all, for definitions; the readers' code has their numbers, which its contracts hold against those names.
+impl From<Outcome> for u32 {
+    ghost from_gives = { λ o n. n ≡ outcome_number o };
+
+    fn from(outcome: Outcome) -> u32 {
+        outcome as u32
+    }
+}
+
+// The messages of docs/RULES.md, 'Messages', each with the original's text: first the lexer's in the order of lexer.rs, then the parser's where each first stands in parser.rs; the tenth counts where `fn_stmt` has it. specs/Messages.antt has the same for definitions.
 #[derive(Clone, Copy)]
 pub struct Message {
     pub number: u32,
@@ -179,6 +170,84 @@ impl Message {
 
     // Closing " was expected
     pub const UNCLOSED_STRING: u32 = 3;
+
+    // Expected new line
+    pub const EXPECTED_NEW_LINE: u32 = 4;
+
+    // Expected variable name
+    pub const EXPECTED_VARIABLE_NAME: u32 = 5;
+
+    // Expected '{' at this position
+    pub const EXPECTED_LEFT_CURLY: u32 = 6;
+
+    // Expected '}' at this position
+    pub const EXPECTED_RIGHT_CURLY: u32 = 7;
+
+    // Expected function name
+    pub const EXPECTED_FUNCTION_NAME: u32 = 8;
+
+    // Expect '(' after function name
+    pub const EXPECT_PAREN_AFTER_NAME: u32 = 9;
+
+    // Max number of parameters is 255
+    pub const MAX_PARAMETERS: u32 = 10;
+
+    // Expected function parameter
+    pub const EXPECTED_PARAMETER: u32 = 11;
+
+    // Expect ')' after expression
+    pub const EXPECT_PAREN_AFTER_EXPRESSION: u32 = 12;
+
+    // Expected '(' after function name
+    pub const EXPECTED_PAREN_AFTER_NAME: u32 = 13;
+
+    // Expect function parameter
+    pub const EXPECT_PARAMETER: u32 = 14;
+
+    // Expected semicolon
+    pub const EXPECTED_SEMICOLON: u32 = 15;
+
+    // Empty expression or let was expected at this position
+    pub const EMPTY_OR_LET: u32 = 16;
+
+    // Expected 'in'
+    pub const EXPECTED_IN: u32 = 17;
+
+    // A catch block was expected at this position
+    pub const EXPECTED_CATCH: u32 = 18;
+
+    // Statement only allowed for use inside loop
+    pub const ONLY_INSIDE_LOOP: u32 = 19;
+
+    // Expected ']' at end of list
+    pub const EXPECTED_END_OF_LIST: u32 = 20;
+
+    // Expected '}' at the end of dict
+    pub const EXPECTED_END_OF_DICT: u32 = 21;
+
+    // Expected ':' after key
+    pub const EXPECTED_COLON_AFTER_KEY: u32 = 22;
+
+    // Undefined statement
+    pub const UNDEFINED_STATEMENT: u32 = 23;
+
+    // Expected ']' at the end of slice
+    pub const EXPECTED_END_OF_SLICE: u32 = 24;
+
+    // Expected property name after '.'
+    pub const EXPECTED_PROPERTY_NAME: u32 = 25;
+
+    // Expect ')' after arguments
+    pub const EXPECT_PAREN_AFTER_ARGUMENTS: u32 = 26;
+
+    // Max number of arguments is 255
+    pub const MAX_ARGUMENTS: u32 = 27;
+
+    // Undefined expression
+    pub const UNDEFINED_EXPRESSION: u32 = 28;
+
+    // Keyword 'super' is only valid for property accessing
+    pub const SUPER_ONLY_FOR_PROPERTY: u32 = 29;
 }
 
 // A table never counts more records than a word can name.

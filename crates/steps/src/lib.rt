@@ -68,7 +68,7 @@ fn rest(tokens: &[u32], nodes: &mut [u32], p: Parser) -> Stepped
 {
     let at = p.current;
     if parser::kind_at(tokens, at) == Token::EOF {
-        return finish(nodes, p, Outcome::ENDED);
+        return finish(nodes, p, Outcome::Ended as u32);
     }
     let q = p.going_on();
     leave(q)
@@ -80,7 +80,7 @@ fn one(tokens: &[u32], errors: &mut [u32], nodes: &mut [u32], index: &[u32], p: 
 {
     let at = p.current;
     if parser::kind_at(tokens, at) == Token::EOF {
-        return finish(nodes, p, Outcome::ENDED);
+        return finish(nodes, p, Outcome::Ended as u32);
     }
     let s = parser::State {
         rule: p.rule,
@@ -123,11 +123,11 @@ pub fn start(
         × (index.new ≡ (begun source.now tokens.old errors.old nodes.old index.old p).index) }
 {
     if !rules::is_known(p.rule) {
-        return refuse(p, Outcome::WRONG_RULE);
+        return refuse(p, Outcome::WrongRule as u32);
     }
     let d = entry::enter(p.rule, p.way, source, tokens, errors, nodes, index);
     let q = p.fresh(d.tokens, d.errors);
-    if d.outcome == Outcome::ENDED {
+    if d.outcome == Outcome::Ended as u32 {
         return rest(tokens, nodes, q);
     }
     let ended = q.closed(d.outcome);
@@ -154,9 +154,9 @@ pub fn step(
             if rules::is_known(p.rule) {
                 return one(tokens, errors, nodes, index, p);
             }
-            return refuse(p, Outcome::WRONG_RULE);
+            return refuse(p, Outcome::WrongRule as u32);
         }
-        return refuse(p, Outcome::DOES_NOT_FIT);
+        return refuse(p, Outcome::DoesNotFit as u32);
     }
     leave(p)
 }
