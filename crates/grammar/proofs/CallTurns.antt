@@ -7,7 +7,7 @@ use Rattle.token.specs.Kind.{left_paren_kind, left_brace_kind, dot_kind, identif
 use Rattle.parser.specs.Tokens.{View}
 use Rattle.parser.specs.declared.State.{State}
 use Rattle.parser.specs.declared.Found.{Found}
-use Rattle.parser.specs.declared.Got.TheVariants.{Node}
+use Rattle.parser.specs.Tables.{Node}
 use Rattle.parser.specs.Tables.{Reply, reply, moved, looked, plain, and_then, require_at, push_node}
 use Rattle.parser.specs.Nodes.{get_row}
 use Rattle.parser.specs.Programs.{Which, Reader, give, ◌>>=◌, node, require, run}

@@ -5,7 +5,7 @@ use Prim.Native.Nat.{ℕ, zero, suc, ◌-◌}
 use native.Mathlib.Omega.{arith}
 use Rattle.parser.specs.Tokens.{View}
 use Rattle.parser.specs.declared.State.{State}
-use Rattle.parser.specs.declared.Got.TheVariants.{Stop}
+use Rattle.parser.specs.Tables.{Stop}
 use Rattle.parser.specs.Tables.{reply}
 use Rattle.parser.specs.Programs.{Which, run}
 use Rattle.parser.specs.Grammar.{body, lower}

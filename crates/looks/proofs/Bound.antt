@@ -8,7 +8,7 @@ use Rattle.token.specs.Kind.{newline_kind}
 use Rattle.records.specs.Table.{linked, token_width}
 use Rattle.records.proofs.Field.{field_none}
 use Rattle.parser.specs.declared.State.{State}
-use Rattle.parser.specs.declared.Got.TheVariants.{Node, Stop}
+use Rattle.parser.specs.Tables.{Node, Stop}
 use Rattle.parser.specs.Tokens.{View, count, kind_at, walked}
 use Rattle.parser.specs.Tables.{Reply, reply, fresh_state}
 use Rattle.parser.specs.Programs.{Which, Declaration, Assignment, Operand}

@@ -8,9 +8,9 @@ use lib.Dec.{eqb}
 use Rattle.records.specs.declared.Node as rows
 use Rattle.parser.specs.declared.State.{State}
 use Rattle.parser.specs.declared.Found.{Found}
-use Rattle.parser.specs.declared.Got.TheVariants.{Node, Stop}
-use Rattle.parser.specs.declared.Seen.{Seen}
-use Rattle.parser.specs.declared.Seen.TheVariants.{At, Nothing}
+use Rattle.parser.specs.Tables.{Node, Stop}
+use Rattle.std.specs.Prelude.{Option}
+use Rattle.std.specs.Prelude.{Some, None}
 use Rattle.parser.specs.Tokens.{View, kind_at, check_at, matches_at}
 use Rattle.parser.specs.Tables.{Reply, reply, moved, looked, counted_by, looped, push_node, push_error, if_seen, and_then, consume_at, require_at}
 use Rattle.parser.specs.Programs.{Reader, Which, Declaration, Assignment, Operand, Prog, give, stop, ◌>>=◌, ◌>>◌, look, check, at_end, previous, node, link, fail, fail_at, consume, require, enter_loop, leave_loop, give_back, inside_loop, in_function, down, either, restored, run}
@@ -76,9 +76,9 @@ pub owed_then : (u b D c : ℕ) (r : Reply) (k : Found → Reader) → Owed u c 
 owed_then u b D c (reply q (Node f) E N) k h g = g f q E N h.owed
 owed_then u b D c (reply q (Stop o) E N) k h g = record { owed = h.owed }
 
-owed_seen : (u b D : ℕ) (s : Seen) (f : ℕ → Reply) (g : Unit {0} → Reply) → ((i : ℕ) → s ≡ At i → Owed u b D (f i)) → Owed u b D (g tt) → Owed u b D (if_seen s f g)
-owed_seen u b D (At i) f g h e = h i refl
-owed_seen u b D Nothing f g h e = e
+owed_seen : (u b D : ℕ) (s : Option ℕ) (f : ℕ → Reply) (g : Unit {0} → Reply) → ((i : ℕ) → s ≡ Some i → Owed u b D (f i)) → Owed u b D (g tt) → Owed u b D (if_seen s f g)
+owed_seen u b D (Some i) f g h e = h i refl
+owed_seen u b D None f g h e = e
 
 owed_either : (u b D : ℕ) (t : Bool) (f g : Unit {0} → Reply) → Owed u b D (f tt) → Owed u b D (g tt) → Owed u b D (either t f g)
 owed_either u b D true f g h e = h
@@ -99,7 +99,7 @@ unfolding consume_at counted_by
 owed_consume u b D T kind m p E N h g = owed_seen _ _ _ (matches_at T p.current kind) _ _ (λ i e. let a = matches_on T p.current kind i e in record { owed = omega arith }) (owed_error u b D T.tokens m p.current (looked p 1) E N (omega arith) (omega arith))
 
 -- an unwrapped `consume` gives a node only after its token
-owed_require : (u b D : ℕ) (T : View) (kind m : ℕ) (p : State) (E N : List ℕ) → ((i : ℕ) → matches_at T p.current kind ≡ At i → p.looks + 1 + u ≤ 45 * i + b) → Within (u + 1) D p → Owed u b D (require_at T kind m p E N)
+owed_require : (u b D : ℕ) (T : View) (kind m : ℕ) (p : State) (E N : List ℕ) → ((i : ℕ) → matches_at T p.current kind ≡ Some i → p.looks + 1 + u ≤ 45 * i + b) → Within (u + 1) D p → Owed u b D (require_at T kind m p E N)
 unfolding require_at counted_by
 owed_require u b D T kind m p E N h g = owed_seen _ _ _ (matches_at T p.current kind) _ _ (λ i e. let z = h i e in record { owed = omega arith }) (owed_then u b D D _ _ (owed_error u D D T.tokens m p.current (looked p 1) E N (omega arith) (omega arith)) λ f q E N l. record { owed = l })
 

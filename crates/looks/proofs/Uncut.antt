@@ -10,10 +10,10 @@ use Rattle.records.specs.Table.{linked}
 use Rattle.records.specs.declared.Node as rows
 use Rattle.parser.specs.declared.State.{State}
 use Rattle.parser.specs.declared.Found.{Found}
-use Rattle.parser.specs.declared.Got.{Got}
-use Rattle.parser.specs.declared.Got.TheVariants.{Node, Stop}
-use Rattle.parser.specs.declared.Seen.{Seen}
-use Rattle.parser.specs.declared.Seen.TheVariants.{At, Nothing}
+use Rattle.parser.specs.Tables.{Got}
+use Rattle.parser.specs.Tables.{Node, Stop}
+use Rattle.std.specs.Prelude.{Option}
+use Rattle.std.specs.Prelude.{Some, None}
 use Rattle.parser.specs.Tokens.{View, count, kind_at, check_at, matches_at}
 use Rattle.parser.specs.Tables.{Reply, reply, moved, looked, counted_by, looped, fresh_state, push_node, push_error, if_seen, and_then, consume_at, require_at}
 use Rattle.parser.specs.Programs.{Reader, Which, Declaration, Prog, give, stop, ◌>>=◌, ◌>>◌, look, check, at_end, previous, node, link, fail, fail_at, consume, require, enter_loop, leave_loop, give_back, inside_loop, in_function, down, either, restored, run}
@@ -44,13 +44,13 @@ told_then n m (reply q (Node f) E N) k c t h = let z = (h f (n + m) q E N t.told
 told_then n m (reply q (Stop o) E N) k c t h = let z = t.told in record { told = omega arith }
 
 -- a look counts one, and what comes after it
-told_look : (n : ℕ) (s : Seen) (f : ℕ → Reply) (g : Unit {0} → Reply) (c : ℕ → ℕ) (d : ℕ) → ((i : ℕ) → Told (n + 1 + c i) (f i)) → Told (n + 1 + d) (g tt) → Told (n + (1 + checks_if s c d)) (if_seen s f g)
-told_look n (At i) f g c d h e = let z = (h i).told in record { told = omega arith }
-told_look n Nothing f g c d h e = let z = e.told in record { told = omega arith }
+told_look : (n : ℕ) (s : Option ℕ) (f : ℕ → Reply) (g : Unit {0} → Reply) (c : ℕ → ℕ) (d : ℕ) → ((i : ℕ) → Told (n + 1 + c i) (f i)) → Told (n + 1 + d) (g tt) → Told (n + (1 + checks_if s c d)) (if_seen s f g)
+told_look n (Some i) f g c d h e = let z = (h i).told in record { told = omega arith }
+told_look n None f g c d h e = let z = e.told in record { told = omega arith }
 
-told_seen : (n : ℕ) (s : Seen) (f : ℕ → Reply) (g : Unit {0} → Reply) → ((i : ℕ) → Told n (f i)) → Told n (g tt) → Told n (if_seen s f g)
-told_seen n (At i) f g h e = h i
-told_seen n Nothing f g h e = e
+told_seen : (n : ℕ) (s : Option ℕ) (f : ℕ → Reply) (g : Unit {0} → Reply) → ((i : ℕ) → Told n (f i)) → Told n (g tt) → Told n (if_seen s f g)
+told_seen n (Some i) f g h e = h i
+told_seen n None f g h e = e
 
 told_either : (n : ℕ) (t : Bool) (f g : Unit {0} → Reply) (c d : ℕ) → Told (n + c) (f tt) → Told (n + d) (g tt) → Told (n + cond t c d) (either t f g)
 told_either n true f g c d h e = h

@@ -4,9 +4,9 @@ use Rattle.token.specs.Kind.{eof_kind}
 use Rattle.records.specs.Table.{linked}
 use Rattle.parser.specs.declared.State.{State}
 use Rattle.parser.specs.declared.Found.{Found}
-use Rattle.parser.specs.declared.Seen.{Seen}
-use Rattle.parser.specs.declared.Seen.TheVariants.{At, Nothing}
-use Rattle.parser.specs.declared.Got.TheVariants.{Node, Stop}
+use Rattle.std.specs.Prelude.{Option}
+use Rattle.std.specs.Prelude.{Some, None}
+use Rattle.parser.specs.Tables.{Node, Stop}
 use Rattle.parser.specs.Tokens.{View, count, kind_at, check_at, matches_at}
 use Rattle.parser.specs.Tables.{Reply, reply, moved, looked, looped, fresh_state}
 use Rattle.parser.specs.Programs.{Reader, Which, Declaration, Prog, give, stop, ◌>>=◌, ◌>>◌, look, check, at_end, previous, node, link, fail, fail_at, consume, require, enter_loop, leave_loop, give_back, inside_loop, in_function, down, run}
@@ -23,9 +23,9 @@ onward (reply q (Node f) E N) k = k f q E N
 onward (reply q (Stop o) E N) k = 0
 
 -- the calls made after a look, by whether it found its token
-abbrev pub checks_if : Seen → (ℕ → ℕ) → ℕ → ℕ
-checks_if (At i) found missing = found i
-checks_if Nothing found missing = missing
+abbrev pub checks_if : Option ℕ → (ℕ → ℕ) → ℕ → ℕ
+checks_if (Some i) found missing = found i
+checks_if None found missing = missing
 
 -- the calls of a program, given the readers one level down and their calls: `look`, `check`, `consume` and `require` make one each, found or not
 unfoldable pub checks : View → (Which → Reader) → (Which → Checks) → Prog → Checks

@@ -12,7 +12,7 @@ use borrow.Author.Tests.{eqb-true, eqb-false, ltb-true, ltb-false, leb-true, leb
 use Rattle.records.specs.declared.Node as rows
 use Rattle.parser.specs.declared.State.{State}
 use Rattle.parser.specs.declared.Found.{Found}
-use Rattle.parser.specs.declared.Got.TheVariants.{Node}
+use Rattle.parser.specs.Tables.{Node}
 use Rattle.parser.specs.declared.Coming.{Coming}
 use Rattle.parser.specs.Tokens.{View, count, peek_at}
 use Rattle.parser.specs.Tables.{Reply, reply, moved, looked, and_then, push_node}

@@ -1,3 +1,4 @@
 pub mod Look
 pub mod Push
 pub mod Write
+pub mod Exits

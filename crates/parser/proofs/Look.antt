@@ -9,7 +9,7 @@ use lib.Dec.{ltb}
 use Rattle.records.specs.Table.{field, token_width, index_width}
 use Rattle.records.proofs.Field.{field_none}
 use Rattle.parser.specs.declared.Coming.{Coming}
-use Rattle.parser.specs.declared.Seen.TheVariants.{At, Nothing}
+use Rattle.std.specs.Prelude.{Some, None}
 use Rattle.parser.specs.Tokens.{View, count, kind_at, after, indexed, skip_lines, peek_at, seen_if, check_at}
 
 pub after_in : (T : List ℕ) (i : ℕ) → (kind_at T i ≡ 0 → ⊥) → i + 1 ≡ after T i
@@ -61,18 +61,18 @@ peek_here T at kind past k h n =
     let s = skip_end T at (λ e. h (k ∙ e)) in
     ap (λ (i : ℕ). record { kind = i; past = past }) (k ∙ ap (kind_at T.tokens) s) ∙ ap (λ (i : ℕ). record { kind = kind_at T.tokens (skip_lines T at); past = i }) (n ∙ ap (after T.tokens) s)
 
-pub check_line : (T : View) (at k : ℕ) → k ≡ 1 → kind_at T.tokens at ≡ 1 → At at ≡ check_at T at k
+pub check_line : (T : View) (at k : ℕ) → k ≡ 1 → kind_at T.tokens at ≡ 1 → Some at ≡ check_at T at k
 unfolding check_at seen_if
 check_line T at k e h = rw (eq-eqb _ _ e, eq-eqb _ _ h, check_at)
 
-pub check_no_line : (T : View) (at k : ℕ) → k ≡ 1 → (kind_at T.tokens at ≡ 1 → ⊥) → Nothing ≡ check_at T at k
+pub check_no_line : (T : View) (at k : ℕ) → k ≡ 1 → (kind_at T.tokens at ≡ 1 → ⊥) → None ≡ check_at T at k
 unfolding check_at seen_if
 check_no_line T at k e h = rw (eq-eqb _ _ e, ne_eqb _ _ h, check_at)
 
-pub check_found : (T : View) (at k i : ℕ) → i ≡ skip_lines T at → (k ≡ 1 → ⊥) → kind_at T.tokens (skip_lines T at) ≡ k → At i ≡ check_at T at k
+pub check_found : (T : View) (at k i : ℕ) → i ≡ skip_lines T at → (k ≡ 1 → ⊥) → kind_at T.tokens (skip_lines T at) ≡ k → Some i ≡ check_at T at k
 unfolding check_at seen_if
-check_found T at k i s e h = rw (ne_eqb _ _ e, eq-eqb _ _ h, check_at) (ap At s)
+check_found T at k i s e h = rw (ne_eqb _ _ e, eq-eqb _ _ h, check_at) (ap Some s)
 
-pub check_none : (T : View) (at k : ℕ) → (k ≡ 1 → ⊥) → (kind_at T.tokens (skip_lines T at) ≡ k → ⊥) → Nothing ≡ check_at T at k
+pub check_none : (T : View) (at k : ℕ) → (k ≡ 1 → ⊥) → (kind_at T.tokens (skip_lines T at) ≡ k → ⊥) → None ≡ check_at T at k
 unfolding check_at seen_if
 check_none T at k e h = rw (ne_eqb _ _ e, ne_eqb _ _ h, check_at)

@@ -8,7 +8,7 @@ use lib.Dec.{ltb}
 use Rattle.records.specs.Table.{room, error_width, node_width}
 use Rattle.records.specs.declared.Node as rows
 use Rattle.parser.specs.declared.State.{State}
-use Rattle.parser.specs.declared.Got.TheVariants.{Stop}
+use Rattle.parser.specs.Tables.{Stop}
 use Rattle.parser.specs.Tables.{Reply, reply, error_at, node_made, error_made, push_node, push_error}
 
 -- two pushes of a node that find as many nodes, and as much room

@@ -14,14 +14,17 @@ use Rattle.records.specs.declared.Node as rows
 use Rattle.records.specs.declared.InterpreterError.{InterpreterError}
 use Rattle.records.proofs.Put.{put_none}
 use Rattle.parser.specs.declared.State.{State}
-use Rattle.parser.specs.declared.Out.{Out}
+use Rattle.parser.specs.declared.Stopped.{Stopped}
+use Rattle.records.specs.declared.Outcome.{Outcome}
+use Rattle.records.specs.declared.Outcome.TheVariants.{FatalStop, NoErrorRoom, NoNodeRoom}
+use Rattle.records.specs.Outcomes.{outcome_number}
 use Rattle.parser.specs.declared.Found.{Found}
-use Rattle.parser.specs.declared.Got.{Got}
-use Rattle.parser.specs.declared.Got.TheVariants.{Node, Stop}
-use Rattle.parser.specs.declared.Seen.{Seen}
-use Rattle.parser.specs.declared.Seen.TheVariants.{At, Nothing}
+use Rattle.parser.specs.Tables.{Got}
+use Rattle.parser.specs.Tables.{Node, Stop}
+use Rattle.std.specs.Prelude.{Option, Result, Ok, Err}
+use Rattle.std.specs.Prelude.{Some, None}
 use Rattle.parser.specs.Tokens.{View, matches_at}
-use Rattle.parser.specs.Tables.{Reply, reply, moved, counted_by, looked, with_node, with_error, error_at, plain, error_made, push_node, push_error, and_then, consume_at, require_at}
+use Rattle.parser.specs.Tables.{Reply, reply, answered, moved, counted_by, looked, with_node, with_error, error_at, plain, error_made, push_node, push_error, and_then, consume_at, require_at}
 use Rattle.parser.specs.Programs.{raised}
 use Rattle.parser.specs.Grammar.{first_of}
 
@@ -30,41 +33,41 @@ pub counted : (w : ℕ) (t : List ℕ) (n : ℕ) (b : Bool) → b ≡ ltb n (roo
 counted w t n b answer h = le_trans (ltb-true n (room w t) (sym answer ∙ h)) (min-le_right (length t / w) 4294967295)
 
 -- ---- nodes
-module _ (d : rows.Node) (p : State) (E N N' : List ℕ) (b : Bool) (o : Out) (h : Pushed node_width N p.nodes (node_words d) b N') where
-  pub node_made_lem : (q : State) → b ≡ true → q ≡ with_node p → o ≡ record { p = q; got = Node (plain (p.nodes + 1)) } → reply o.p o.got E N' ≡ push_node d p E N
+module _ (d : rows.Node) (p : State) (E N N' : List ℕ) (b : Bool) (o : Result (State × Found) Stopped) (h : Pushed node_width N p.nodes (node_words d) b N') where
+  pub node_made_lem : (q : State) → b ≡ true → q ≡ with_node p → o ≡ Ok (q, plain (p.nodes + 1)) → answered o E N' ≡ push_node d p E N
   unfolding push_node
   node_made_lem q t s e =
       let r : ltb p.nodes (room node_width N) ≡ true = sym h.answer ∙ t in
-      ap (λ (x : Out). reply x.p x.got E N') e
+      ap (λ (x : Result (State × Found) Stopped). answered x E N') e
       ∙ ap (λ (x : State). reply x (Node (plain (p.nodes + 1))) E N') s
       ∙ ap (reply (with_node p) (Node (plain (p.nodes + 1))) E) h.table
       ∙ sym (rw (r, push_node))
 
-  pub node_refused : b ≡ false → o ≡ record { p = p; got = Stop 7 } → reply o.p o.got E N' ≡ push_node d p E N
+  pub node_refused : b ≡ false → o ≡ Err (record { p = p; outcome = NoNodeRoom }) → answered o E N' ≡ push_node d p E N
   unfolding push_node
   node_refused t e =
       let r : ltb p.nodes (room node_width N) ≡ false = sym h.answer ∙ t in
-      ap (λ (x : Out). reply x.p x.got E N') e
+      ap (λ (x : Result (State × Found) Stopped). answered x E N') e
       ∙ ap (reply p (Stop 7) E) (h.table ∙ put_none node_width N p.nodes (node_words d) (ltb-false _ _ r))
       ∙ sym (rw (r, push_node))
 
 -- ---- errors
-module _ (T : List ℕ) (message i : ℕ) (d : InterpreterError) (p : State) (E E' N : List ℕ) (b : Bool) (o : Out) (l : d ≡ error_at T message i) (h : Pushed error_width E p.errors (error_words d) b E') where
-  pub error_made_lem : (q : State) → b ≡ true → q ≡ with_error p → o ≡ record { p = q; got = Node (plain 0) } → reply o.p o.got E' N ≡ push_error T message i p E N
+module _ (T : List ℕ) (message i : ℕ) (d : InterpreterError) (p : State) (E E' N : List ℕ) (b : Bool) (o : Result (State × Found) Stopped) (l : d ≡ error_at T message i) (h : Pushed error_width E p.errors (error_words d) b E') where
+  pub error_made_lem : (q : State) → b ≡ true → q ≡ with_error p → o ≡ Ok (q, plain 0) → answered o E' N ≡ push_error T message i p E N
   unfolding push_error
   error_made_lem q t s e =
       let r : ltb p.errors (room error_width E) ≡ true = sym h.answer ∙ t in
-      ap (λ (x : Out). reply x.p x.got E' N) e
+      ap (λ (x : Result (State × Found) Stopped). answered x E' N) e
       ∙ ap (λ (x : State). reply x (Node (plain 0)) E' N) s
       ∙ ap (λ (x : List ℕ). reply (with_error p) (Node (plain 0)) x N) h.table
       ∙ ap (λ (x : InterpreterError). error_made x p E N) l
       ∙ sym (rw (r, push_error))
 
-  pub error_refused : b ≡ false → o ≡ record { p = p; got = Stop 6 } → reply o.p o.got E' N ≡ push_error T message i p E N
+  pub error_refused : b ≡ false → o ≡ Err (record { p = p; outcome = NoErrorRoom }) → answered o E' N ≡ push_error T message i p E N
   unfolding push_error
   error_refused t e =
       let r : ltb p.errors (room error_width E) ≡ false = sym h.answer ∙ t in
-      ap (λ (x : Out). reply x.p x.got E' N) e
+      ap (λ (x : Result (State × Found) Stopped). answered x E' N) e
       ∙ ap (λ (x : List ℕ). reply p (Stop 6) x N) (h.table ∙ put_none error_width E p.errors _ (ltb-false _ _ r))
       ∙ sym (rw (r, push_error))
 
@@ -101,40 +104,40 @@ unfolding raised
 raised_full n h = sym (rw (le-ltb _ _ h, raised))
 
 -- ---- a token that is passed, or whose absence is an error
-module _ (T : View) (kind message : ℕ) (p : State) (s : Seen) (h : s ≡ matches_at T p.current kind) where
-  pub consume_found : (i : ℕ) (E N : List ℕ) (o : Out) (q : State) → s ≡ At i → q ≡ moved (looked p 1) i → o ≡ record { p = q; got = Node (plain i) } → reply o.p o.got E N ≡ consume_at T kind message p E N
+module _ (T : View) (kind message : ℕ) (p : State) (s : Option ℕ) (h : s ≡ matches_at T p.current kind) where
+  pub consume_found : (i : ℕ) (E N : List ℕ) (o : Result (State × Found) Stopped) (q : State) → s ≡ Some i → q ≡ moved (looked p 1) i → o ≡ Ok (q, plain i) → answered o E N ≡ consume_at T kind message p E N
   unfolding consume_at
   consume_found i E N o q f g e =
-      let m : matches_at T p.current kind ≡ At i = sym h ∙ f in
-      ap (λ (x : Out). reply x.p x.got E N) e ∙ ap (λ (x : State). reply x (Node (plain i)) E N) g ∙ sym (rw (m, consume_at))
+      let m : matches_at T p.current kind ≡ Some i = sym h ∙ f in
+      ap (λ (x : Result (State × Found) Stopped). answered x E N) e ∙ ap (λ (x : State). reply x (Node (plain i)) E N) g ∙ sym (rw (m, consume_at))
 
-  pub consume_missing : (E N : List ℕ) (r : Reply) (q : State) → s ≡ Nothing → q ≡ looked p 1 → r ≡ push_error T.tokens message p.current q E N → r ≡ consume_at T kind message p E N
+  pub consume_missing : (E N : List ℕ) (r : Reply) (q : State) → s ≡ None → q ≡ looked p 1 → r ≡ push_error T.tokens message p.current q E N → r ≡ consume_at T kind message p E N
   unfolding consume_at
   consume_missing E N r q f l e =
-      let m : matches_at T p.current kind ≡ Nothing = sym h ∙ f in
+      let m : matches_at T p.current kind ≡ None = sym h ∙ f in
       e ∙ ap (λ (x : State). push_error T.tokens message p.current x E N) l ∙ sym (rw (m, consume_at))
 
-  pub require_found : (i : ℕ) (E N : List ℕ) (o : Out) (q : State) → s ≡ At i → q ≡ moved (looked p 1) i → o ≡ record { p = q; got = Node (plain i) } → reply o.p o.got E N ≡ require_at T kind message p E N
+  pub require_found : (i : ℕ) (E N : List ℕ) (o : Result (State × Found) Stopped) (q : State) → s ≡ Some i → q ≡ moved (looked p 1) i → o ≡ Ok (q, plain i) → answered o E N ≡ require_at T kind message p E N
   unfolding require_at
   require_found i E N o q f g e =
-      let m : matches_at T p.current kind ≡ At i = sym h ∙ f in
-      ap (λ (x : Out). reply x.p x.got E N) e ∙ ap (λ (x : State). reply x (Node (plain i)) E N) g ∙ sym (rw (m, require_at))
+      let m : matches_at T p.current kind ≡ Some i = sym h ∙ f in
+      ap (λ (x : Result (State × Found) Stopped). answered x E N) e ∙ ap (λ (x : State). reply x (Node (plain i)) E N) g ∙ sym (rw (m, require_at))
 
-  module _ (E E' N : List ℕ) (g : Out) (q : State) (f : s ≡ Nothing) (l : q ≡ looked p 1) (e : reply g.p g.got E' N ≡ push_error T.tokens message p.current q E N) where
-    stops : require_at T kind message p E N ≡ and_then (reply g.p g.got E' N) λ x q E N. reply q (Stop 1) E N
+  module _ (E E' N : List ℕ) (g : Result (State × Found) Stopped) (q : State) (f : s ≡ None) (l : q ≡ looked p 1) (e : answered g E' N ≡ push_error T.tokens message p.current q E N) where
+    stops : require_at T kind message p E N ≡ and_then (answered g E' N) λ x q E N. reply q (Stop 1) E N
     unfolding require_at
     stops =
-        let m : matches_at T p.current kind ≡ Nothing = sym h ∙ f in
+        let m : matches_at T p.current kind ≡ None = sym h ∙ f in
         let r : require_at T kind message p E N ≡ and_then (push_error T.tokens message p.current (looked p 1) E N) (λ x q E N. reply q (Stop 1) E N) = rw (m, require_at) in
         r ∙ ap (λ (x : Reply). and_then x λ x q E N. reply q (Stop 1) E N) (sym (e ∙ ap (λ (x : State). push_error T.tokens message p.current x E N) l))
 
-    pub require_full : (w : ℕ) → g.got ≡ Stop w → reply g.p g.got E' N ≡ require_at T kind message p E N
-    require_full w k = ap (λ (x : Got). reply g.p x E' N) k ∙ sym (stops ∙ ap (λ (x : Got). and_then (reply g.p x E' N) λ x q E N. reply q (Stop 1) E N) k)
+    pub require_full : (w : Stopped) → g ≡ Err w → answered (Err w) E' N ≡ require_at T kind message p E N
+    require_full w k = sym (stops ∙ ap (λ (x : Result (State × Found) Stopped). and_then (answered x E' N) λ x q E N. reply q (Stop 1) E N) k)
 
-    pub require_stops : (x : Found) (o : Out) → g.got ≡ Node x → o ≡ record { p = g.p; got = Stop 1 } → reply o.p o.got E' N ≡ require_at T kind message p E N
+    pub require_stops : (x : State × Found) (o : Result (State × Found) Stopped) → g ≡ Ok x → o ≡ Err (record { p = x.0; outcome = FatalStop }) → answered o E' N ≡ require_at T kind message p E N
     require_stops x o k q =
-        ap (λ (y : Out). reply y.p y.got E' N) q
-        ∙ sym (stops ∙ ap (λ (y : Got). and_then (reply g.p y E' N) λ x q E N. reply q (Stop 1) E N) k)
+        ap (λ (y : Result (State × Found) Stopped). answered y E' N) q
+        ∙ sym (stops ∙ ap (λ (y : Result (State × Found) Stopped). and_then (answered y E' N) λ x q E N. reply q (Stop 1) E N) k)
 
 -- a list's first member
 pub first_none : (f n : ℕ) → f ≡ 0 → n ≡ first_of f n

@@ -7,7 +7,7 @@ use Rattle.records.specs.declared.Node as rows
 use Rattle.parser.specs.declared.Form.{Form}
 use Rattle.parser.specs.declared.Form.TheVariants.{Other, Empty, Name, Property}
 use Rattle.parser.specs.declared.Found.{Found}
-use Rattle.parser.specs.declared.Got.TheVariants.{Stop}
+use Rattle.parser.specs.Tables.{Stop}
 use Rattle.parser.specs.Tokens.{View, count}
 use Rattle.parser.specs.Tables.{reply, plain}
 use Rattle.parser.specs.Nodes.{fn_expr_row, var_row, list_row, dictionary_row, assign_row, access_row, binary_row, call_row, get_row, set_row, super_row, grouping_row, literal_row, logical_row, this_row, unary_row, empty_row, fn_row, let_row, block_row, class_row, classic_for_row, enhanced_for_row, while_row, if_row, continue_row, return_row, break_row, try_catch_row, expr_row, elif_row, name_row}

@@ -6,7 +6,7 @@ use Rattle.records.specs.Table.{linked}
 use Rattle.records.specs.declared.Node as rows
 use Rattle.parser.specs.declared.State.{State}
 use Rattle.parser.specs.declared.Found.{Found}
-use Rattle.parser.specs.declared.Got.TheVariants.{Node, Stop}
+use Rattle.parser.specs.Tables.{Node, Stop}
 use Rattle.parser.specs.Tokens.{View, kind_at, check_at, matches_at}
 use Rattle.parser.specs.Tables.{Reply, reply, moved, looked, looped, plain, push_node, push_error, if_seen, and_then, consume_at, require_at}
 

@@ -1,6 +1,6 @@
 -- What a reading gives, and the leaves that write: nodes, links and errors.
-use Rattle.std.specs.Prelude.{ℕ, ◌+◌, ◌-◌, min, true, false, List, ltb}
-use Rattle.records.specs.Outcomes.{fatal_stop, no_error_room, no_node_room}
+use Rattle.std.specs.Prelude.{ℕ, ◌+◌, ◌-◌, min, true, false, List, ltb, Option, Some, None, Result, Ok, Err}
+use Rattle.records.specs.Outcomes.{fatal_stop, no_error_room, no_node_room, outcome_number}
 use Rattle.records.specs.Table.{room, put, error_width, node_width}
 use Rattle.records.specs.Words.{error_words, node_words}
 use Rattle.records.specs.declared.Node as rows
@@ -8,15 +8,22 @@ use Rattle.records.specs.declared.InterpreterError.{InterpreterError}
 use Rattle.parser.specs.declared.State.{State}
 use Rattle.parser.specs.declared.Form.TheVariants.{Other}
 use Rattle.parser.specs.declared.Found.{Found}
-use Rattle.parser.specs.declared.Got.{Got}
-use Rattle.parser.specs.declared.Got.TheVariants.{Node, Stop}
-use Rattle.parser.specs.declared.Seen.{Seen}
-use Rattle.parser.specs.declared.Seen.TheVariants.{At, Nothing}
+use Rattle.parser.specs.declared.Stopped.{Stopped}
 use Rattle.parser.specs.Tokens.{View, start_at, line_at, matches_at}
+
+-- a reader gives what it found, or stops the reading with an outcome
+pub data Got : Type 0 where
+  Node : Found → Got
+  Stop : ℕ → Got
 
 -- a reader's answer: the state, what it found or why it stopped, and the tables of errors and nodes then
 pub data Reply : Type 0 where
   reply : State → Got → List ℕ → List ℕ → Reply
+
+-- the code's answer, and the tables that it leaves, as a reader's answer
+abbrev pub answered : Result (State × Found) Stopped → List ℕ → List ℕ → Reply
+answered (Ok f) E N = reply f.0 (Node f.1) E N
+answered (Err s) E N = reply s.p (Stop (outcome_number s.outcome)) E N
 
 -- the reading goes on at token i
 abbrev pub moved : State → ℕ → State
@@ -79,9 +86,9 @@ unfoldable pub push_error : List ℕ → ℕ → ℕ → State → List ℕ → 
 push_error T message i p E N = elim (ltb p.errors (room error_width E)) [ true ↦ error_made (error_at T message i) p E N | false ↦ reply p (Stop no_error_room) E N ]
 
 -- the first with the token's index where one was found, else the second
-abbrev pub if_seen : Seen → (ℕ → Reply) → (Unit {0} → Reply) → Reply
-if_seen (At i) found missing = found i
-if_seen Nothing found missing = missing tt
+abbrev pub if_seen : Option ℕ → (ℕ → Reply) → (Unit {0} → Reply) → Reply
+if_seen (Some i) found missing = found i
+if_seen None found missing = missing tt
 
 -- the reading goes on with what was found; a stop ends it
 abbrev pub and_then : Reply → (Found → State → List ℕ → List ℕ → Reply) → Reply

@@ -1,10 +1,9 @@
 -- Looking at tokens: kinds, places, and `check`, which passes newlines.
-use Rattle.std.specs.Prelude.{ℕ, zero, suc, ◌+◌, ◌-◌, Bool, true, false, List, eqb}
+use Rattle.std.specs.Prelude.{ℕ, zero, suc, ◌+◌, ◌-◌, Bool, true, false, List, Option, Some, None, eqb}
 use Rattle.token.specs.Kind.{eof_kind, newline_kind}
 use Rattle.records.specs.Table.{room, field, token_width, index_width}
 use Rattle.parser.specs.declared.Coming.{Coming}
-use Rattle.parser.specs.declared.Seen.{Seen}
-use Rattle.parser.specs.declared.Seen.TheVariants.{At, Nothing}
+use Rattle.parser.specs.declared.Tokens.{Tokens}
 
 -- how many tokens the table has at the most
 abbrev pub count : List ℕ → ℕ
@@ -45,6 +44,10 @@ walked t = record { tokens = t; hop = λ i. lines_from (count t - i) t i }
 abbrev pub indexed : List ℕ → List ℕ → View
 indexed t x = record { tokens = t; hop = λ i. field index_width 0 x i - 1 - i }
 
+-- the tokens that a reader of the code is lent
+abbrev pub view : Tokens → View
+view t = indexed t.table.now t.index.now
+
 -- past the newlines, from token i on
 unfoldable pub skip_lines : View → ℕ → ℕ
 skip_lines T i = elim (eqb (kind_at T.tokens i) newline_kind) [ true ↦ i + T.hop i | false ↦ i ]
@@ -54,12 +57,12 @@ abbrev pub peek_at : View → ℕ → Coming
 peek_at T i = record { kind = kind_at T.tokens (skip_lines T i); past = after T.tokens (skip_lines T i) }
 
 -- found at i where the test holds, else nothing
-unfoldable pub seen_if : Bool → ℕ → Seen
-seen_if true i = At i
-seen_if false i = Nothing
+unfoldable pub seen_if : Bool → ℕ → Option ℕ
+seen_if true i = Some i
+seen_if false i = None
 
 -- `check`: for any kind but Newline it first passes newlines, and goes back if it fails
-unfoldable pub check_at : View → ℕ → ℕ → Seen
+unfoldable pub check_at : View → ℕ → ℕ → Option ℕ
 check_at T i kind =
     elim (eqb kind newline_kind) [
       | true ↦ seen_if (eqb (kind_at T.tokens i) newline_kind) i
@@ -67,5 +70,5 @@ check_at T i kind =
     ]
 
 -- `matches`: the token that `check` finds is passed
-unfoldable pub matches_at : View → ℕ → ℕ → Seen
-matches_at T i kind = elim (check_at T i kind) [ At j ↦ At (after T.tokens j) | Nothing ↦ Nothing ]
+unfoldable pub matches_at : View → ℕ → ℕ → Option ℕ
+matches_at T i kind = elim (check_at T i kind) [ Some j ↦ Some (after T.tokens j) | None ↦ None ]

@@ -5,7 +5,7 @@ use Rattle.records.specs.Messages.{expected_new_line}
 use Rattle.records.specs.Outcomes.{ended, out_of_fuel}
 use Rattle.records.specs.Table.{linked, zeroed, node_width}
 use Rattle.parser.specs.declared.State.{State}
-use Rattle.parser.specs.declared.Got.TheVariants.{Node, Stop}
+use Rattle.parser.specs.Tables.{Node, Stop}
 use Rattle.parser.specs.declared.Parsed as answers
 use Rattle.parser.specs.Tokens.{View, count, kind_at}
 use Rattle.parser.specs.Tables.{Reply, reply, fresh_state, and_then, consume_at}

@@ -1,15 +1,15 @@
 // What the readers of parser.rs stand on: the state, what a reader answers, and the leaves, which look at tokens and write nodes and errors.
 #![tactic(auto)]
 
-ghost use Rattle.std.specs.Prelude.{◌≡◌, List, not, ℕ, ◌-◌, eqb};
+ghost use Rattle.std.specs.Prelude.{◌≡◌, List, not, ℕ, ◌-◌, eqb, Ok, Err};
 ghost use Rattle.token.specs.Kind.{eof_kind};
 ghost use Rattle.rules.specs.Rules.{loops_behind};
-ghost use Rattle.parser.specs.Tokens.{kind_at, start_at, line_at, after, indexed, skip_lines, peek_at, check_at, matches_at};
-ghost use Rattle.parser.specs.Tables.{Reply, reply, moved, counted_by, looked, looped, with_nodes, with_errors, fresh_state, error_at, push_node, push_error, plain, consume_at, require_at};
+ghost use Rattle.parser.specs.Tokens.{kind_at, start_at, line_at, after, indexed, view, skip_lines, peek_at, check_at, matches_at};
+ghost use Rattle.parser.specs.Tables.{answered, moved, counted_by, looked, looped, with_nodes, with_errors, fresh_state, error_at, push_node, push_error, plain, consume_at, require_at};
 ghost use Rattle.parser.specs.Programs.{raised};
 ghost use Rattle.parser.specs.Grammar.{first_of};
 
-use records::{InterpreterError, Node};
+use records::{InterpreterError, Node, Outcome};
 use rules::Rule;
 use token::Token;
 
@@ -42,26 +42,15 @@ pub struct Found {
     pub access: u32,
 }
 
-// A reader gives what it found, or stops the reading with an outcome.
+// Why a reading stopped, and its state then.
 #[derive(Clone, Copy)]
-pub enum Got {
-    Node(Found),
-    Stop(u32),
-}
-
-// A reader's answer, with the state beside it.
-#[derive(Clone, Copy)]
-pub struct Out {
+pub struct Stopped {
     pub p: State,
-    pub got: Got,
+    pub outcome: Outcome,
 }
 
-// Whether a token of a kind is next, and where.
-#[derive(Clone, Copy)]
-pub enum Seen {
-    At(u32),
-    Nothing,
-}
+// A reader's answer: the state after what it found, or a stop, which `?` passes on.
+pub type Out = Result<(State, Found), Stopped>;
 
 // The next token that is no Newline: its kind, and the token past it.
 #[derive(Clone, Copy)]
@@ -90,89 +79,153 @@ pub fn line_at(tokens: &[u32], i: u32) -> u32
     records::token_line(tokens, i)
 }
 
-// The token after token i; there is none after EOF.
-pub fn next(tokens: &[u32], i: u32) -> u32
-    ensures { result ≡ after tokens.now i }
-{
-    if kind_at(tokens, i) == Token::EOF {
-        return i;
-    }
-    i + 1
+// The tokens that are read, with the index of their newlines: what every reader is lent, and none changes.
+#[derive(Clone, Copy)]
+pub struct Tokens<'a> {
+    pub table: &'a [u32],
+    pub index: &'a [u32],
 }
 
-// Past the newlines: from a Newline the index leads on. A word of it that would lead back is ignored.
-#[tactic(auto, using(crate::proofs::Look::skip_word, crate::proofs::Look::skip_stays, crate::proofs::Look::skip_end))]
-fn skip(tokens: &[u32], index: &[u32], at: u32) -> u32
-    ensures { result ≡ skip_lines (indexed tokens.now index.now) at }
-{
-    if kind_at(tokens, at) == Token::NEWLINE {
-        let first = records::index_word(index, at);
-        if at < first {
-            return first - 1;
-        }
+impl<'a> Tokens<'a> {
+    pub fn new(table: &'a [u32], index: &'a [u32]) -> Self
+        ensures { view result ≡ indexed table.now index.now }
+    {
+        Tokens { table, index }
     }
-    at
-}
 
-// What comes past the newlines, for a reader that tests it for many kinds. Only this function and `check` pass newlines. Both see a token that is no Newline at
-// once, as most are.
-pub fn peek(tokens: &[u32], index: &[u32], at: u32) -> Coming
-    ensures { result ≡ peek_at (indexed tokens.now index.now) at }
-{
-    let here = kind_at(tokens, at);
-    if here != Token::NEWLINE {
-        let past = next(tokens, at);
-        return Coming { kind: here, past };
+    pub fn kind_at(&self, i: u32) -> u32
+        ensures { result ≡ kind_at self.now.table.now i }
+    {
+        kind_at(self.table, i)
     }
-    let i = skip(tokens, index, at);
-    let kind = kind_at(tokens, i);
-    let past = next(tokens, i);
-    Coming { kind, past }
-}
 
-// `check`: for any kind but Newline it passes newlines. Where it finds the token the cursor stays on it; else the caller keeps its own.
-pub fn check(tokens: &[u32], index: &[u32], at: u32, kind: u32) -> Seen
-    ensures { result ≡ check_at (indexed tokens.now index.now) at kind }
-{
-    if kind == Token::NEWLINE {
-        if kind_at(tokens, at) == Token::NEWLINE {
-            Seen::At(at)
-        } else {
-            Seen::Nothing
+    // The token after token i; there is none after EOF.
+    pub fn next(&self, i: u32) -> u32
+        ensures { result ≡ after self.now.table.now i }
+    {
+        if self.kind_at(i) == Token::EOF {
+            return i;
         }
-    } else {
-        let here = kind_at(tokens, at);
-        if here == kind {
-            return Seen::At(at);
+        i + 1
+    }
+
+    // Past the newlines: from a Newline the index leads on. A word of it that would lead back is ignored.
+    #[tactic(auto, using(crate::proofs::Look::skip_word, crate::proofs::Look::skip_stays, crate::proofs::Look::skip_end))]
+    fn skip(&self, at: u32) -> u32
+        ensures { result ≡ skip_lines (view self.now) at }
+    {
+        if self.kind_at(at) == Token::NEWLINE {
+            let first = records::index_word(self.index, at);
+            if at < first {
+                return first - 1;
+            }
         }
+        at
+    }
+
+    // What comes past the newlines, for a reader that tests it for many kinds. Only this function and `check` pass newlines. Both see a token that is no Newline at
+    // once, as most are.
+    pub fn peek(&self, at: u32) -> Coming
+        ensures { result ≡ peek_at (view self.now) at }
+    {
+        let here = self.kind_at(at);
         if here != Token::NEWLINE {
-            return Seen::Nothing;
+            let past = self.next(at);
+            return Coming { kind: here, past };
         }
-        let i = skip(tokens, index, at);
-        if kind_at(tokens, i) == kind {
-            Seen::At(i)
+        let i = self.skip(at);
+        let kind = self.kind_at(i);
+        let past = self.next(i);
+        Coming { kind, past }
+    }
+
+    // `check`: for any kind but Newline it passes newlines. Where it finds the token the cursor stays on it; else the caller keeps its own.
+    pub fn check(&self, at: u32, kind: u32) -> Option<u32>
+        ensures { result ≡ check_at (view self.now) at kind }
+    {
+        if kind == Token::NEWLINE {
+            if self.kind_at(at) == Token::NEWLINE {
+                Some(at)
+            } else {
+                None
+            }
         } else {
-            Seen::Nothing
+            let here = self.kind_at(at);
+            if here == kind {
+                return Some(at);
+            }
+            if here != Token::NEWLINE {
+                return None;
+            }
+            let i = self.skip(at);
+            if self.kind_at(i) == kind {
+                Some(i)
+            } else {
+                None
+            }
         }
     }
-}
 
-// `matches`: the cursor after the token found.
-pub fn matches(tokens: &[u32], index: &[u32], at: u32, kind: u32) -> Seen
-    ensures { result ≡ matches_at (indexed tokens.now index.now) at kind }
-{
-    match check(tokens, index, at, kind) {
-        Seen::At(i) => Seen::At(next(tokens, i)),
-        Seen::Nothing => Seen::Nothing,
+    // `matches`: the cursor after the token found.
+    pub fn matches(&self, at: u32, kind: u32) -> Option<u32>
+        ensures { result ≡ matches_at (view self.now) at kind }
+    {
+        let i = self.check(at, kind)?;
+        Some(self.next(i))
     }
-}
 
-// `is_at_end`: it passes no newlines.
-pub fn is_at_end(tokens: &[u32], p: State) -> bool
-    ensures { result ≡ eqb (kind_at tokens.now p.current) eof_kind }
-{
-    let at = p.current;
-    kind_at(tokens, at) == Token::EOF
+    // `is_at_end`: it passes no newlines.
+    pub fn is_at_end(&self, p: State) -> bool
+        ensures { result ≡ eqb (kind_at self.now.table.now p.current) eof_kind }
+    {
+        self.kind_at(p.current) == Token::EOF
+    }
+
+    // The error with that message about a token: it carries the token's line, and where the token starts.
+    pub fn error_at(&self, message: u32, token: u32) -> InterpreterError
+        ensures { result ≡ error_at self.now.table.now message token }
+    {
+        let line = line_at(self.table, token);
+        let pos = start_at(self.table, token);
+        InterpreterError { message, line, pos }
+    }
+
+    // The one function that records a parser error: message, and the token whose line and start it reports; 6 where it finds no room.
+    pub fn set_error(&self, errors: &mut [u32], p: State, message: u32, token: u32) -> Out
+        ensures { (N : List ℕ) → answered result errors.new N ≡ push_error self.now.table.now message token p errors.old N }
+    {
+        let n = p.errors;
+        let e = self.error_at(message, token);
+        if records::push_error(errors, n, e) {
+            return gives(p.with_errors(n + 1), 0);
+        }
+        stops(p, Outcome::NoErrorRoom)
+    }
+
+    // `consume`: one look; the token's reference, or its absence is an error, and 0.
+    pub fn consume(&self, errors: &mut [u32], p: State, kind: u32, message: u32) -> Out
+        ensures { (N : List ℕ) → answered result errors.new N ≡ consume_at (view self.now) kind message p errors.old N }
+    {
+        let at = p.current;
+        match self.matches(at, kind) {
+            Some(i) => gives(p.at_token(i, 1), i),
+            None => self.set_error(errors, p.looked(1), message, at),
+        }
+    }
+
+    // A `consume` whose result is unwrapped: its failure stops the reading.
+    pub fn require(&self, errors: &mut [u32], p: State, kind: u32, message: u32) -> Out
+        ensures { (N : List ℕ) → answered result errors.new N ≡ require_at (view self.now) kind message p errors.old N }
+    {
+        let at = p.current;
+        match self.matches(at, kind) {
+            Some(i) => gives(p.at_token(i, 1), i),
+            None => {
+                let (q, _) = self.set_error(errors, p.looked(1), message, at)?;
+                stops(q, Outcome::FatalStop)
+            }
+        }
+    }
 }
 
 // ---- the state by value
@@ -193,14 +246,10 @@ impl State {
     pub fn at_token(self, i: u32, n: u32) -> Self
         ensures { result ≡ moved (looked self n) i }
     {
-        let looks = counted(self.looks, n);
         State {
-            rule: self.rule,
             current: i,
-            errors: self.errors,
-            nodes: self.nodes,
-            loops: self.loops,
-            looks,
+            looks: counted(self.looks, n),
+            ..self
         }
     }
 
@@ -208,14 +257,9 @@ impl State {
     pub fn looked(self, n: u32) -> Self
         ensures { result ≡ looked self n }
     {
-        let looks = counted(self.looks, n);
         State {
-            rule: self.rule,
-            current: self.current,
-            errors: self.errors,
-            nodes: self.nodes,
-            loops: self.loops,
-            looks,
+            looks: counted(self.looks, n),
+            ..self
         }
     }
 
@@ -223,42 +267,21 @@ impl State {
     pub fn with_loops(self, n: u32) -> Self
         ensures { result ≡ looped self n }
     {
-        State {
-            rule: self.rule,
-            current: self.current,
-            errors: self.errors,
-            nodes: self.nodes,
-            loops: n,
-            looks: self.looks,
-        }
+        State { loops: n, ..self }
     }
 
     // With so many nodes.
     pub fn with_nodes(self, n: u32) -> Self
         ensures { result ≡ with_nodes self n }
     {
-        State {
-            rule: self.rule,
-            current: self.current,
-            errors: self.errors,
-            nodes: n,
-            loops: self.loops,
-            looks: self.looks,
-        }
+        State { nodes: n, ..self }
     }
 
     // With so many errors.
     pub fn with_errors(self, n: u32) -> Self
         ensures { result ≡ with_errors self n }
     {
-        State {
-            rule: self.rule,
-            current: self.current,
-            errors: n,
-            nodes: self.nodes,
-            loops: self.loops,
-            looks: self.looks,
-        }
+        State { errors: n, ..self }
     }
 
     // The state that a parsing starts in, by a rule and with so many errors recorded before.
@@ -323,25 +346,21 @@ impl State {
 
 // A node, or a token's reference, that is nothing left of `=`.
 pub fn gives(p: State, n: u32) -> Out
-    ensures { result ≡ record { p = p; got = Got.Node (plain n) } }
+    ensures { result ≡ Ok (p, plain n) }
 {
-    Out {
-        p,
-        got: Got::Node(Found {
-            node: n,
-            form: Form::Other,
-            access: 0,
-        }),
-    }
+    let found = Found {
+        node: n,
+        form: Form::Other,
+        access: 0,
+    };
+    Ok((p, found))
 }
 
-pub fn stopped(p: State, outcome: u32) -> Out
-    ensures { result ≡ record { p = p; got = Got.Stop outcome } }
+// The reading stops.
+pub fn stops(p: State, outcome: Outcome) -> Out
+    ensures { result ≡ Err (record { p = p; outcome = outcome }) }
 {
-    Out {
-        p,
-        got: Got::Stop(outcome),
-    }
+    Err(Stopped { p, outcome })
 }
 
 // ---- writing
@@ -355,79 +374,14 @@ pub fn first_of(first: u32, n: u32) -> u32
 
 // One more node: its reference; 7 where it finds no room.
 pub fn make(nodes: &mut [u32], p: State, d: Node) -> Out
-    ensures { (E : List ℕ) → reply result.p result.got E nodes.new ≡ push_node d p E nodes.old }
+    ensures { (E : List ℕ) → answered result E nodes.new ≡ push_node d p E nodes.old }
 {
     let n = p.nodes;
     if records::push_node(nodes, n, d) {
         let m = n + 1;
         return gives(p.with_nodes(m), m);
     }
-    stopped(p, 7)
-}
-
-// The error with that message about a token: it carries the token's line, and where the token starts.
-pub fn error_at(tokens: &[u32], message: u32, token: u32) -> InterpreterError
-    ensures { result ≡ error_at tokens.now message token }
-{
-    let line = line_at(tokens, token);
-    let pos = start_at(tokens, token);
-    InterpreterError { message, line, pos }
-}
-
-// The one function that records a parser error: message, and the token whose line and start it reports; 6 where it finds no room.
-pub fn set_error(tokens: &[u32], errors: &mut [u32], p: State, message: u32, token: u32) -> Out
-    ensures { (N : List ℕ) → reply result.p result.got errors.new N ≡ push_error tokens.now message token p errors.old N }
-{
-    let n = p.errors;
-    let e = error_at(tokens, message, token);
-    if records::push_error(errors, n, e) {
-        return gives(p.with_errors(n + 1), 0);
-    }
-    stopped(p, 6)
-}
-
-// `consume`: one look; the token's reference, or its absence is an error, and 0.
-pub fn consume(
-    tokens: &[u32],
-    errors: &mut [u32],
-    index: &[u32],
-    p: State,
-    kind: u32,
-    message: u32,
-) -> Out
-    ensures { (N : List ℕ) → reply result.p result.got errors.new N ≡ consume_at (indexed tokens.now index.now) kind message p errors.old N }
-{
-    let at = p.current;
-    match matches(tokens, index, at, kind) {
-        Seen::At(i) => gives(p.at_token(i, 1), i),
-        Seen::Nothing => set_error(tokens, errors, p.looked(1), message, at),
-    }
-}
-
-// A `consume` whose result is unwrapped: its failure stops the reading.
-pub fn require(
-    tokens: &[u32],
-    errors: &mut [u32],
-    index: &[u32],
-    p: State,
-    kind: u32,
-    message: u32,
-) -> Out
-    ensures { (N : List ℕ) → reply result.p result.got errors.new N ≡ require_at (indexed tokens.now index.now) kind message p errors.old N }
-{
-    let at = p.current;
-    match matches(tokens, index, at, kind) {
-        Seen::At(i) => gives(p.at_token(i, 1), i),
-        Seen::Nothing => {
-            let g = set_error(tokens, errors, p.looked(1), message, at);
-            let k = g.got;
-            let Got::Node(_) = k else {
-                return g;
-            };
-            let q = g.p;
-            stopped(q, 1)
-        }
-    }
+    stops(p, Outcome::NoNodeRoom)
 }
 
 // How the parsing ended, how many errors and nodes are kept, the first statement, and how often `check` was called.

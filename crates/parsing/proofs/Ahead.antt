@@ -17,10 +17,10 @@ use Rattle.parser.specs.declared.State.{State}
 use Rattle.parser.specs.declared.Form.{Form}
 use Rattle.parser.specs.declared.Form.TheVariants.{Other, Empty, Name, Property}
 use Rattle.parser.specs.declared.Found.{Found}
-use Rattle.parser.specs.declared.Got.{Got}
-use Rattle.parser.specs.declared.Got.TheVariants.{Node, Stop}
-use Rattle.parser.specs.declared.Seen.{Seen}
-use Rattle.parser.specs.declared.Seen.TheVariants.{At, Nothing}
+use Rattle.parser.specs.Tables.{Got}
+use Rattle.parser.specs.Tables.{Node, Stop}
+use Rattle.std.specs.Prelude.{Option}
+use Rattle.std.specs.Prelude.{Some, None}
 use Rattle.parser.specs.Tokens.{View, count, kind_at, start_at, line_at, after, walked, indexed, skip_lines, seen_if, check_at, matches_at}
 use Rattle.parser.specs.Tables.{Reply, reply, looped, fresh_state, push_node, push_error, if_seen, and_then, consume_at, require_at}
 use Rattle.parser.specs.Programs.{Reader, Which, Declaration, Assignment, Operand, Prog, give, stop, ◌>>=◌, ◌>>◌, look, check, at_end, previous, node, link, fail, fail_at, consume, require, enter_loop, leave_loop, give_back, inside_loop, in_function, down, either, restored, run}
@@ -311,9 +311,9 @@ abbrev Place : ℕ → ℕ → ℕ → Type 0
 Place e i j = (i ≤ e) × (i ≡ j)
 
 -- the same token at or before e, or none
-pub data Spotted (e : ℕ) : Seen → Seen → Type 0 where
-  spot : (i : ℕ) → i ≤ e → Spotted e (At i) (At i)
-  none : Spotted e Nothing Nothing
+pub data Spotted (e : ℕ) : Option ℕ → Option ℕ → Type 0 where
+  spot : (i : ℕ) → i ≤ e → Spotted e (Some i) (Some i)
+  none : Spotted e None None
 
 -- where a reading stops, it is with one of parsing's stops
 abbrev pub Ending : Got → Type 0
@@ -360,7 +360,7 @@ module _ (T T' : View) (e : ℕ) (a : Agree e T T') where
   unfolding matches_at
   matches_ahead i kind h = go (check_ahead i kind h)
     where
-      go : {s s' : Seen} → Spotted e s s' → Spotted e (elim s [ At j ↦ At (after T.tokens j) | Nothing ↦ Nothing ]) (elim s' [ At j ↦ At (after T'.tokens j) | Nothing ↦ Nothing ])
+      go : {s s' : Option ℕ} → Spotted e s s' → Spotted e (elim s [ Some j ↦ Some (after T.tokens j) | None ↦ None ]) (elim s' [ Some j ↦ Some (after T'.tokens j) | None ↦ None ])
       go (spot j l) = let f = after_ahead j l in rw (← f.1) (spot (after T.tokens j) f.0)
       go none = none
 
@@ -378,7 +378,7 @@ ahead_then : (e : ℕ) {r r' : Reply} (k k' : Found → Reader) → Ahead e r r'
 ahead_then e k k' (ahead q (Node f) E N l x) h = h f q E N l
 ahead_then e k k' (ahead q (Stop o) E N l x) h = ahead q (Stop o) E N l x
 
-ahead_seen : (e : ℕ) {s s' : Seen} (f f' : ℕ → Reply) (g g' : Unit {0} → Reply) → Spotted e s s' → ((i : ℕ) → i ≤ e → Ahead e (f i) (f' i)) → Ahead e (g tt) (g' tt) → Ahead e (if_seen s f g) (if_seen s' f' g')
+ahead_seen : (e : ℕ) {s s' : Option ℕ} (f f' : ℕ → Reply) (g g' : Unit {0} → Reply) → Spotted e s s' → ((i : ℕ) → i ≤ e → Ahead e (f i) (f' i)) → Ahead e (g tt) (g' tt) → Ahead e (if_seen s f g) (if_seen s' f' g')
 ahead_seen e f f' g g' (spot i l) h m = h i l
 ahead_seen e f f' g g' none h m = m
 

@@ -12,9 +12,9 @@ use Rattle.records.specs.Table.{linked}
 use Rattle.records.specs.declared.Node as rows
 use Rattle.parser.specs.declared.State.{State}
 use Rattle.parser.specs.declared.Found.{Found}
-use Rattle.parser.specs.declared.Seen.{Seen}
-use Rattle.parser.specs.declared.Seen.TheVariants.{At, Nothing}
-use Rattle.parser.specs.declared.Got.TheVariants.{Node, Stop}
+use Rattle.std.specs.Prelude.{Option}
+use Rattle.std.specs.Prelude.{Some, None}
+use Rattle.parser.specs.Tables.{Node, Stop}
 use Rattle.parser.specs.Tokens.{View, kind_at, check_at, matches_at}
 use Rattle.parser.specs.Tables.{Reply, reply, fresh_state, looped, plain, push_node, push_error, if_seen, and_then, consume_at, require_at}
 use Rattle.parser.specs.Programs.{Reader, Which, Declaration, Prog, give, stop, ◌>>=◌, ◌>>◌, look, check, at_end, previous, node, link, fail, fail_at, consume, require, enter_loop, leave_loop, give_back, inside_loop, in_function, down, raised, either, restored, run}
@@ -42,10 +42,10 @@ agree_then c cs _ _ j k (nodes p f E N n) h = step (h f (record { function = c.f
     step (stops p o E N ds n) = stops p o E N ds n
 agree_then c cs _ _ j k (stops p o E N ds n) h = stops p o E N ds n
 
-agree_seen : (cs : List Call) (s : Seen) (a : ℕ → Named) (b : Unit {0} → Named) (c : ℕ → Reply) (d : Unit {0} → Reply) → ((i : ℕ) → Agree cs (a i) (c i)) → Agree cs (b tt) (d tt)
+agree_seen : (cs : List Call) (s : Option ℕ) (a : ℕ → Named) (b : Unit {0} → Named) (c : ℕ → Reply) (d : Unit {0} → Reply) → ((i : ℕ) → Agree cs (a i) (c i)) → Agree cs (b tt) (d tt)
     → Agree cs (if_named s a b) (if_seen s c d)
-agree_seen cs (At i) a b c d h g = h i
-agree_seen cs Nothing a b c d h g = g
+agree_seen cs (Some i) a b c d h g = h i
+agree_seen cs None a b c d h g = g
 
 agree_either : (cs : List Call) (t : Bool) (a b : Unit {0} → Named) (c d : Unit {0} → Reply) → Agree cs (a tt) (c tt) → Agree cs (b tt) (d tt) → Agree cs (either_named t a b) (either t c d)
 agree_either cs true a b c d h g = h
@@ -60,10 +60,10 @@ module _ (c : Call) (cs : List Call) where
   agree_error p t message i E N = push_errors (λ x y. Agree (c ∷ cs) (named x (c ∷ cs)) y) t t message i p (looped p c.loops) E N E N refl refl (λ _. nodes _ _ _ N c.loops) (stops p 6 E N _ c.loops)
 
   -- a token found or not, within a named answer
-  inner_seen : (s : Seen) (f f' : ℕ → Reply) (g g' : Unit {0} → Reply) → ((i : ℕ) → Agree (c ∷ cs) (named (f i) (c ∷ cs)) (f' i)) → Agree (c ∷ cs) (named (g tt) (c ∷ cs)) (g' tt)
+  inner_seen : (s : Option ℕ) (f f' : ℕ → Reply) (g g' : Unit {0} → Reply) → ((i : ℕ) → Agree (c ∷ cs) (named (f i) (c ∷ cs)) (f' i)) → Agree (c ∷ cs) (named (g tt) (c ∷ cs)) (g' tt)
       → Agree (c ∷ cs) (named (if_seen s f g) (c ∷ cs)) (if_seen s f' g')
-  inner_seen (At i) f f' g g' h e = h i
-  inner_seen Nothing f f' g g' h e = e
+  inner_seen (Some i) f f' g g' h e = h i
+  inner_seen None f f' g g' h e = e
 
   agree_consume : (p : State) (T : View) (kind message : ℕ) (E N : List ℕ) → Agree (c ∷ cs) (named (consume_at T kind message p E N) (c ∷ cs)) (consume_at T kind message (looped p c.loops) E N)
   unfolding consume_at

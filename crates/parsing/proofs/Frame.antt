@@ -18,10 +18,10 @@ use Rattle.records.proofs.Field.{field_same, field_other}
 use Rattle.records.proofs.Rest.{linked_length, zeroed_length, zeroed_word, zeroed_take}
 use Rattle.parser.specs.declared.State.{State}
 use Rattle.parser.specs.declared.Found.{Found}
-use Rattle.parser.specs.declared.Got.{Got}
-use Rattle.parser.specs.declared.Got.TheVariants.{Node, Stop}
-use Rattle.parser.specs.declared.Seen.{Seen}
-use Rattle.parser.specs.declared.Seen.TheVariants.{At, Nothing}
+use Rattle.parser.specs.Tables.{Got}
+use Rattle.parser.specs.Tables.{Node, Stop}
+use Rattle.std.specs.Prelude.{Option}
+use Rattle.std.specs.Prelude.{Some, None}
 use Rattle.parser.specs.Tokens.{View, count, kind_at, check_at, matches_at}
 use Rattle.parser.specs.Tables.{Reply, reply, looped, fresh_state, error_at, push_node, push_error, if_seen, and_then, consume_at, require_at}
 use Rattle.parser.specs.Programs.{Reader, Which, Declaration, Prog, give, stop, ◌>>=◌, ◌>>◌, look, check, at_end, previous, node, link, fail, fail_at, consume, require, enter_loop, leave_loop, give_back, inside_loop, in_function, down, either, restored, run}
@@ -161,9 +161,9 @@ pub grown_then : (a : ℕ) (E : List ℕ) (b : ℕ) (N : List ℕ) (r : Reply) (
 grown_then a E b N (reply q (Node f) F M) k h g = grown_on a b q.errors q.nodes E F N M (k f q F M) h.errors h.nodes (g f q F M)
 grown_then a E b N (reply q (Stop o) F M) k h g = record { errors = h.errors; nodes = h.nodes }
 
-grown_seen : (a : ℕ) (E : List ℕ) (b : ℕ) (N : List ℕ) (s : Seen) (f : ℕ → Reply) (g : Unit {0} → Reply) → ((i : ℕ) → Grown a E b N (f i)) → Grown a E b N (g tt) → Grown a E b N (if_seen s f g)
-grown_seen a E b N (At i) f g h e = h i
-grown_seen a E b N Nothing f g h e = e
+grown_seen : (a : ℕ) (E : List ℕ) (b : ℕ) (N : List ℕ) (s : Option ℕ) (f : ℕ → Reply) (g : Unit {0} → Reply) → ((i : ℕ) → Grown a E b N (f i)) → Grown a E b N (g tt) → Grown a E b N (if_seen s f g)
+grown_seen a E b N (Some i) f g h e = h i
+grown_seen a E b N None f g h e = e
 
 grown_either : (a : ℕ) (E : List ℕ) (b : ℕ) (N : List ℕ) (s : Bool) (f g : Unit {0} → Reply) → Grown a E b N (f tt) → Grown a E b N (g tt) → Grown a E b N (either s f g)
 grown_either a E b N true f g h e = h

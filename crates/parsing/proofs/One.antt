@@ -3,7 +3,7 @@ use mathlib.Core.Path.{◌≡◌, sym, ap, ◌∙◌}
 use mathlib.Core.List.{List, []}
 use Prim.Native.Nat.{ℕ}
 use Rattle.parser.specs.declared.State.{State}
-use Rattle.parser.specs.declared.Got.{Got}
+use Rattle.parser.specs.Tables.{Got}
 use Rattle.parser.specs.Tables.{Reply, reply}
 
 -- the state, what was found, and the two tables are the same

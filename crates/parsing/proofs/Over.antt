@@ -13,9 +13,9 @@ use Rattle.records.specs.declared.Node as rows
 use Rattle.records.proofs.Room.{lt_or_le}
 use Rattle.parser.specs.declared.State.{State}
 use Rattle.parser.specs.declared.Found.{Found}
-use Rattle.parser.specs.declared.Got.TheVariants.{Node, Stop}
-use Rattle.parser.specs.declared.Seen.{Seen}
-use Rattle.parser.specs.declared.Seen.TheVariants.{At, Nothing}
+use Rattle.parser.specs.Tables.{Node, Stop}
+use Rattle.std.specs.Prelude.{Option}
+use Rattle.std.specs.Prelude.{Some, None}
 use Rattle.parser.specs.Tokens.{View, count, kind_at, after, walked, skip_lines, seen_if, check_at, matches_at}
 use Rattle.parser.specs.Tables.{Reply, reply, fresh_state, looped, push_error, if_seen, and_then, consume_at, require_at}
 use Rattle.parser.specs.Programs.{Reader, Which, Declaration, Prog, give, stop, ◌>>=◌, ◌>>◌, look, check, at_end, previous, node, link, fail, fail_at, consume, require, enter_loop, leave_loop, give_back, inside_loop, in_function, down, either, restored, run}
@@ -44,14 +44,14 @@ after_most T i = go (eqb (kind_at T i) 0)
     go false = omega arith
 
 -- what is found is a token before token e
-abbrev Before : ℕ → Seen → Type 0
-Before e (At i) = i < e
-Before e Nothing = Unit {0}
+abbrev Before : ℕ → Option ℕ → Type 0
+Before e (Some i) = i < e
+Before e None = Unit {0}
 
 -- past it the cursor is at or before e
-abbrev UpTo : ℕ → Seen → Type 0
-UpTo e (At i) = i ≤ e
-UpTo e Nothing = Unit {0}
+abbrev UpTo : ℕ → Option ℕ → Type 0
+UpTo e (Some i) = i ≤ e
+UpTo e None = Unit {0}
 
 -- a reading leaves the cursor at or before e, and does not stop with 0
 abbrev pub ShortOf : ℕ → Reply → Type 0
@@ -85,22 +85,22 @@ module _ (T : View) (e : ℕ) (over : catch_kind < kind_at T.tokens e) (within :
   unfolding matches_at
   matches_before i kind l m = go (check_at T i kind) (check_before i kind l m)
     where
-      go : (s : Seen) → Before e s → UpTo e (elim s [ At j ↦ At (after T.tokens j) | Nothing ↦ Nothing ])
-      go (At j) x = let a = after_most T.tokens j in omega arith
-      go Nothing x = tt
+      go : (s : Option ℕ) → Before e s → UpTo e (elim s [ Some j ↦ Some (after T.tokens j) | None ↦ None ])
+      go (Some j) x = let a = after_most T.tokens j in omega arith
+      go None x = tt
 
   -- ---- steps of a reading
   short_then : (r : Reply) (k : Found → Reader) → Short e r → ((f : Found) (q : State) (E N : List ℕ) → q.current ≤ e → Short e (k f q E N)) → Short e (and_then r k)
   short_then (reply q (Node f) E N) k x g = g f q E N x.short
   short_then (reply q (Stop o) E N) k x g = record { short = x.short }
 
-  short_seen : (s : Seen) (f : ℕ → Reply) (g : Unit {0} → Reply) → UpTo e s → ((i : ℕ) → i ≤ e → Short e (f i)) → Short e (g tt) → Short e (if_seen s f g)
-  short_seen (At i) f g l x y = x i l
-  short_seen Nothing f g l x y = y
+  short_seen : (s : Option ℕ) (f : ℕ → Reply) (g : Unit {0} → Reply) → UpTo e s → ((i : ℕ) → i ≤ e → Short e (f i)) → Short e (g tt) → Short e (if_seen s f g)
+  short_seen (Some i) f g l x y = x i l
+  short_seen None f g l x y = y
 
-  short_found : (s : Seen) (f : ℕ → Reply) (g : Unit {0} → Reply) → Before e s → ((i : ℕ) → i ≤ e → Short e (f i)) → Short e (g tt) → Short e (if_seen s f g)
-  short_found (At i) f g l x y = x i (omega arith)
-  short_found Nothing f g l x y = y
+  short_found : (s : Option ℕ) (f : ℕ → Reply) (g : Unit {0} → Reply) → Before e s → ((i : ℕ) → i ≤ e → Short e (f i)) → Short e (g tt) → Short e (if_seen s f g)
+  short_found (Some i) f g l x y = x i (omega arith)
+  short_found None f g l x y = y
 
   short_either : (b : Bool) (f g : Unit {0} → Reply) → Short e (f tt) → Short e (g tt) → Short e (either b f g)
   short_either true f g x y = x
@@ -183,16 +183,16 @@ module _ (T : View) (e : ℕ) (over : catch_kind < kind_at T.tokens e) (within :
         (short_or first p.nodes _ _ (top_never_passed p E N l) λ m q E N h. statements_short n (first_of first m) m q E (linked N last m) h)
 
 -- at such a token, also where newlines lead to it, every test for a kind that a reader asks for fails
-pub over_nothing : (T : View) (i kind : ℕ) → is_asked kind ≡ true → catch_kind < kind_at T.tokens (skip_lines T i) → (kind ≡ newline_kind → kind_at T.tokens i ≡ newline_kind → ⊥) → matches_at T i kind ≡ Nothing
+pub over_nothing : (T : View) (i kind : ℕ) → is_asked kind ≡ true → catch_kind < kind_at T.tokens (skip_lines T i) → (kind ≡ newline_kind → kind_at T.tokens i ≡ newline_kind → ⊥) → matches_at T i kind ≡ None
 unfolding matches_at check_at seen_if
 over_nothing T i kind a o n = go (eqb kind 1) refl
   where
-    none : (b : Bool) (j k : ℕ) → eqb (kind_at T.tokens j) k ≡ b → (kind_at T.tokens j ≡ k → ⊥) → ◌≡◌ {A = Seen} (elim (seen_if b j) [ At j ↦ At (after T.tokens j) | Nothing ↦ Nothing ]) Nothing
+    none : (b : Bool) (j k : ℕ) → eqb (kind_at T.tokens j) k ≡ b → (kind_at T.tokens j ≡ k → ⊥) → ◌≡◌ {A = Option ℕ} (elim (seen_if b j) [ Some j ↦ Some (after T.tokens j) | None ↦ None ]) None
     none true j k e h = absurd (h (eqb-true _ _ e))
     none false j k e h = refl
 
     go : (b : Bool) → eqb kind 1 ≡ b
-        → ◌≡◌ {A = Seen} (elim (elim b as (λ _. Seen) [ true ↦ seen_if (eqb (kind_at T.tokens i) 1) i | false ↦ seen_if (eqb (kind_at T.tokens (skip_lines T i)) kind) (skip_lines T i) ]) [ At j ↦ At (after T.tokens j) | Nothing ↦ Nothing ]) Nothing
+        → ◌≡◌ {A = Option ℕ} (elim (elim b as (λ _. Option ℕ) [ true ↦ seen_if (eqb (kind_at T.tokens i) 1) i | false ↦ seen_if (eqb (kind_at T.tokens (skip_lines T i)) kind) (skip_lines T i) ]) [ Some j ↦ Some (after T.tokens j) | None ↦ None ]) None
     go true e = none (eqb (kind_at T.tokens i) 1) i 1 refl (n (eqb-true _ _ e))
     go false e = none (eqb (kind_at T.tokens (skip_lines T i)) kind) (skip_lines T i) kind refl (λ z. let m = most kind a in absurd (omega (arith, z, m, o)))
 

@@ -16,8 +16,8 @@ use Rattle.records.proofs.Room.{lt_or_le}
 use Rattle.records.proofs.Field.{field_put, field_other}
 use Rattle.parser.specs.declared.State.{State}
 use Rattle.parser.specs.declared.Found.{Found}
-use Rattle.parser.specs.declared.Got.TheVariants.{Node, Stop}
-use Rattle.parser.specs.declared.Seen.{Seen}
+use Rattle.parser.specs.Tables.{Node, Stop}
+use Rattle.std.specs.Prelude.{Option}
 use Rattle.parser.specs.Tokens.{View, count, kind_at, walked}
 use Rattle.parser.specs.Tables.{Reply, reply, looped, fresh_state, error_at, push_node, push_error, if_seen, and_then, consume_at, require_at}
 use Rattle.parser.specs.Programs.{Reader, Which, Declaration, Prog, give, stop, ◌>>=◌, ◌>>◌, look, check, at_end, previous, node, link, fail, fail_at, consume, require, enter_loop, leave_loop, give_back, inside_loop, in_function, down, either, restored, run}
@@ -93,7 +93,7 @@ module _ (T : View) (e a : ℕ) (same : Agree e T T) where
   fine_then (reply q (Node f) E N) k x g = g f q E N x.at x.errors
   fine_then (reply q (Stop o) E N) k x g = x
 
-  fine_seen : {s s' : Seen} (f : ℕ → Reply) (g : Unit {0} → Reply) → Spotted e s s' → ((i : ℕ) → i ≤ e → Fine (f i)) → Fine (g tt) → Fine (if_seen s f g)
+  fine_seen : {s s' : Option ℕ} (f : ℕ → Reply) (g : Unit {0} → Reply) → Spotted e s s' → ((i : ℕ) → i ≤ e → Fine (f i)) → Fine (g tt) → Fine (if_seen s f g)
   fine_seen f g (spot i l) x y = x i l
   fine_seen f g none x y = y
 

@@ -10,9 +10,9 @@ use Rattle.records.specs.Messages.{expected_in}
 use Rattle.records.specs.declared.Node as rows
 use Rattle.parser.specs.declared.State.{State}
 use Rattle.parser.specs.declared.Found.{Found}
-use Rattle.parser.specs.declared.Got.TheVariants.{Node, Stop}
-use Rattle.parser.specs.declared.Seen.{Seen}
-use Rattle.parser.specs.declared.Seen.TheVariants.{At, Nothing}
+use Rattle.parser.specs.Tables.{Node, Stop}
+use Rattle.std.specs.Prelude.{Option}
+use Rattle.std.specs.Prelude.{Some, None}
 use Rattle.parser.specs.Tokens.{View, kind_at, check_at, matches_at}
 use Rattle.parser.specs.Tables.{Reply, reply, looped, plain, push_node, push_error, if_seen, and_then, consume_at, require_at}
 use Rattle.parser.specs.Programs.{Reader, Which, Declaration, Prog, give, stop, ◌>>=◌, ◌>>◌, look, check, at_end, previous, node, link, fail, fail_at, consume, require, enter_loop, leave_loop, give_back, inside_loop, in_function, down, either, restored, run}
@@ -34,9 +34,9 @@ module _ (rule : ℕ) where
   then_ruled (reply q (Node f) E N) k h g = subst (λ (n : ℕ). Ruled n (k f q E N)) h.rule_is (g f q E N)
   then_ruled (reply q (Stop o) E N) k h g = record { rule_is = h.rule_is }
 
-  seen_ruled : (s : Seen) (f : ℕ → Reply) (g : Unit {0} → Reply) → ((i : ℕ) → Ruled rule (f i)) → Ruled rule (g tt) → Ruled rule (if_seen s f g)
-  seen_ruled (At i) f g h e = h i
-  seen_ruled Nothing f g h e = e
+  seen_ruled : (s : Option ℕ) (f : ℕ → Reply) (g : Unit {0} → Reply) → ((i : ℕ) → Ruled rule (f i)) → Ruled rule (g tt) → Ruled rule (if_seen s f g)
+  seen_ruled (Some i) f g h e = h i
+  seen_ruled None f g h e = e
 
   either_ruled : (s : Bool) (f g : Unit {0} → Reply) → Ruled rule (f tt) → Ruled rule (g tt) → Ruled rule (either s f g)
   either_ruled true f g h e = h

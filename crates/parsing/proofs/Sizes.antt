@@ -16,10 +16,10 @@ use Rattle.records.proofs.Room.{room_length, lt_or_le}
 use Rattle.records.proofs.Put.{put_take, put_length}
 use Rattle.parser.specs.declared.State.{State}
 use Rattle.parser.specs.declared.Found.{Found}
-use Rattle.parser.specs.declared.Got.{Got}
-use Rattle.parser.specs.declared.Got.TheVariants.{Node, Stop}
-use Rattle.parser.specs.declared.Seen.{Seen}
-use Rattle.parser.specs.declared.Seen.TheVariants.{At, Nothing}
+use Rattle.parser.specs.Tables.{Got}
+use Rattle.parser.specs.Tables.{Node, Stop}
+use Rattle.std.specs.Prelude.{Option}
+use Rattle.std.specs.Prelude.{Some, None}
 use Rattle.parser.specs.Tokens.{View, count, kind_at, check_at, matches_at}
 use Rattle.parser.specs.Tables.{Reply, reply, looped, fresh_state, error_at, push_node, push_error, if_seen, and_then, consume_at, require_at}
 use Rattle.parser.specs.Programs.{Reader, Which, Declaration, Prog, give, stop, ◌>>=◌, ◌>>◌, look, check, at_end, previous, node, link, fail, fail_at, consume, require, enter_loop, leave_loop, give_back, inside_loop, in_function, down, either, restored, run}
@@ -47,9 +47,9 @@ same_then : {r r' : Reply} (k : Found → Reader) → Same r r' → ((f : Found)
 same_then k (same q (Node f) E N E' N' a) h = h f q E N E' N' a
 same_then k (same q (Stop o) E N E' N' a) h = same q (Stop o) E N E' N' a
 
-same_seen : (s : Seen) (f f' : ℕ → Reply) (g g' : Unit {0} → Reply) → ((i : ℕ) → Same (f i) (f' i)) → Same (g tt) (g' tt) → Same (if_seen s f g) (if_seen s f' g')
-same_seen (At i) f f' g g' h e = h i
-same_seen Nothing f f' g g' h e = e
+same_seen : (s : Option ℕ) (f f' : ℕ → Reply) (g g' : Unit {0} → Reply) → ((i : ℕ) → Same (f i) (f' i)) → Same (g tt) (g' tt) → Same (if_seen s f g) (if_seen s f' g')
+same_seen (Some i) f f' g g' h e = h i
+same_seen None f f' g g' h e = e
 
 same_either : (b : Bool) (f f' g g' : Unit {0} → Reply) → Same (f tt) (f' tt) → Same (g tt) (g' tt) → Same (either b f g) (either b f' g')
 same_either true f f' g g' h e = h

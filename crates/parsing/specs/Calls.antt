@@ -9,9 +9,9 @@ use Rattle.records.specs.Outcomes.{ended, out_of_fuel, too_deep}
 use Rattle.records.specs.Table.{linked}
 use Rattle.parser.specs.declared.State.{State}
 use Rattle.parser.specs.declared.Found.{Found}
-use Rattle.parser.specs.declared.Seen.{Seen}
-use Rattle.parser.specs.declared.Seen.TheVariants.{At, Nothing}
-use Rattle.parser.specs.declared.Got.TheVariants.{Node, Stop}
+use Rattle.std.specs.Prelude.{Option}
+use Rattle.std.specs.Prelude.{Some, None}
+use Rattle.parser.specs.Tables.{Node, Stop}
 use Rattle.parser.specs.Tokens.{View, count, kind_at, check_at, matches_at}
 use Rattle.parser.specs.Tables.{Reply, reply, fresh_state, moved, looked, plain, push_node, push_error, consume_at, require_at}
 use Rattle.parser.specs.Programs.{Which, Declaration, Prog, give, stop, ◌>>=◌, ◌>>◌, look, check, at_end, previous, node, link, fail, fail_at, consume, require, enter_loop, leave_loop, give_back, inside_loop, in_function, down, raised}
@@ -76,9 +76,9 @@ then_named (named (reply p (Stop o) E N) cs) k = named (reply p (Stop o) E N) cs
 then_named unequal k = unequal
 
 -- the first with the token's index where one was found, else the second
-abbrev pub if_named : Seen → (ℕ → Named) → (Unit {0} → Named) → Named
-if_named (At i) found missing = found i
-if_named Nothing found missing = missing tt
+abbrev pub if_named : Option ℕ → (ℕ → Named) → (Unit {0} → Named) → Named
+if_named (Some i) found missing = found i
+if_named None found missing = missing tt
 
 -- the first where the test holds, else the second
 abbrev pub either_named : Bool → (Unit {0} → Named) → (Unit {0} → Named) → Named

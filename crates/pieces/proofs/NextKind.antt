@@ -8,8 +8,8 @@ use lib.Dec.{eqb}
 use borrow.Author.Tests.{ne_eqb, eqb-true, eqb-false}
 use Rattle.parser.specs.declared.State.{State}
 use Rattle.parser.specs.declared.Coming.{Coming}
-use Rattle.parser.specs.declared.Seen.{Seen}
-use Rattle.parser.specs.declared.Seen.TheVariants.{At, Nothing}
+use Rattle.std.specs.Prelude.{Option}
+use Rattle.std.specs.Prelude.{Some, None}
 use Rattle.parser.specs.Tokens.{View, kind_at, after, skip_lines, peek_at, check_at, matches_at}
 use Rattle.parser.specs.Tables.{Reply, moved, looked, if_seen}
 use Rattle.parser.specs.Programs.{Which, Reader, Prog, look, run}
@@ -28,27 +28,27 @@ pub peeked : (T : View) (at : ℕ) (r : Coming) → r ≡ peek_at T at → Next 
 peeked T at r e = record { its = sym (ap (λ (c : Coming). c.kind) e); behind = sym (ap (λ (c : Coming). c.past) e) }
 
 -- what `matches` makes of what `check` sees
-abbrev pub passed : View → Seen → Seen
-passed T (At i) = At (after T.tokens i)
-passed T Nothing = Nothing
+abbrev pub passed : View → Option ℕ → Option ℕ
+passed T (Some i) = Some (after T.tokens i)
+passed T None = None
 
-pub matches_passed : (T : View) (at k : ℕ) (s : Seen) → s ≡ check_at T at k → matches_at T at k ≡ passed T s
+pub matches_passed : (T : View) (at k : ℕ) (s : Option ℕ) → s ≡ check_at T at k → matches_at T at k ≡ passed T s
 unfolding matches_at
 matches_passed T at k s e = go (check_at T at k) s (sym e)
   where
-    go : (r s : Seen) → r ≡ s → elim r [ At j ↦ At (after T.tokens j) | Nothing ↦ Nothing ] ≡ passed T s
-    go (At i) s e = ap (passed T) e
-    go Nothing s e = ap (passed T) e
+    go : (r s : Option ℕ) → r ≡ s → elim r [ Some j ↦ Some (after T.tokens j) | None ↦ None ] ≡ passed T s
+    go (Some i) s e = ap (passed T) e
+    go None s e = ap (passed T) e
 
-pub match_here : (T : View) (at kind j k : ℕ) → Next T at kind j → eqb k 1 ≡ false → kind ≡ k → matches_at T at k ≡ At j
-match_here T at kind j k n l e = matches_passed T at k (At (skip_lines T at)) (check_found T at k (skip_lines T at) refl (eqb-false k 1 l) (n.its ∙ e)) ∙ ap At n.behind
+pub match_here : (T : View) (at kind j k : ℕ) → Next T at kind j → eqb k 1 ≡ false → kind ≡ k → matches_at T at k ≡ Some j
+match_here T at kind j k n l e = matches_passed T at k (Some (skip_lines T at)) (check_found T at k (skip_lines T at) refl (eqb-false k 1 l) (n.its ∙ e)) ∙ ap Some n.behind
 
-pub match_other : (T : View) (at kind j k : ℕ) → Next T at kind j → eqb k 1 ≡ false → (kind ≡ k → ⊥) → matches_at T at k ≡ Nothing
-match_other T at kind j k n l h = matches_passed T at k Nothing (check_none T at k (eqb-false k 1 l) (λ e. h (sym n.its ∙ e)))
+pub match_other : (T : View) (at kind j k : ℕ) → Next T at kind j → eqb k 1 ≡ false → (kind ≡ k → ⊥) → matches_at T at k ≡ None
+match_other T at kind j k n l h = matches_passed T at k None (check_none T at k (eqb-false k 1 l) (λ e. h (sym n.its ∙ e)))
 
 module _ (T : View) (low : Which → Reader) (k : ℕ) (f : ℕ → Prog) (m : Prog) (p : State) (E N : List ℕ) (kind j : ℕ) (n : Next T p.current kind j) where
   -- what a look does by what it sees
-  abbrev seen : Seen → Reply
+  abbrev seen : Option ℕ → Reply
   seen s = if_seen s (λ i. run T low (f i) (moved (looked p 1) i) E N) λ _. run T low m (looked p 1) E N
 
   -- it is the kind that is looked for

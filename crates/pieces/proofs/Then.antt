@@ -4,7 +4,7 @@ use mathlib.Core.List.{List}
 use Prim.Native.Nat.{ℕ}
 use Rattle.parser.specs.declared.State.{State}
 use Rattle.parser.specs.declared.Found.{Found}
-use Rattle.parser.specs.declared.Got.TheVariants.{Node, Stop}
+use Rattle.parser.specs.Tables.{Node, Stop}
 use Rattle.parser.specs.Tables.{Reply, reply, and_then}
 use Rattle.parser.specs.Programs.{Reader}
 

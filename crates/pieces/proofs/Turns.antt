@@ -7,10 +7,10 @@ use native.Mathlib.Omega.{arith}
 use lib.Dec.{ltb, eqb}
 use Rattle.parser.specs.declared.State.{State}
 use Rattle.parser.specs.declared.Found.{Found}
-use Rattle.parser.specs.declared.Got.{Got}
-use Rattle.parser.specs.declared.Got.TheVariants.{Node, Stop}
-use Rattle.parser.specs.declared.Seen.{Seen}
-use Rattle.parser.specs.declared.Seen.TheVariants.{At}
+use Rattle.parser.specs.Tables.{Got}
+use Rattle.parser.specs.Tables.{Node, Stop}
+use Rattle.std.specs.Prelude.{Option}
+use Rattle.std.specs.Prelude.{Some}
 use Rattle.parser.specs.Tokens.{View, walked, count, matches_at}
 use Rattle.records.specs.declared.Node as rows
 use Rattle.parser.specs.Tables.{Reply, reply, and_then, push_node, consume_at, require_at}
@@ -21,7 +21,7 @@ use Rattle.progress.proofs.Leaf.{matches_at_lem}
 use Rattle.progress.proofs.Moves.{Past, moves, moves_on, lower_moves, never_back, reading_moves, never}
 
 -- `matches` found a token that is not EOF: the reading goes on after where the cursor was, and the cursor was at a token
-pub found_past : (T : View) (at kind i : ℕ) (s : Seen) → s ≡ matches_at T at kind → s ≡ At i → ltb 0 kind ≡ true → (at < i) × (at < count T.tokens)
+pub found_past : (T : View) (at kind i : ℕ) (s : Option ℕ) → s ≡ matches_at T at kind → s ≡ Some i → ltb 0 kind ≡ true → (at < i) × (at < count T.tokens)
 found_past T at zero i s e f h = never h
 found_past T at (suc k) i s e f h = matches_at_lem T at k i (sym e ∙ f)
 

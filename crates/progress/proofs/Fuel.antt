@@ -12,9 +12,9 @@ use Rattle.parser.specs.declared.State.{State}
 use Rattle.parser.specs.declared.Form.{Form}
 use Rattle.parser.specs.declared.Form.TheVariants.{Other, Empty, Name, Property}
 use Rattle.parser.specs.declared.Found.{Found}
-use Rattle.parser.specs.declared.Got.TheVariants.{Node, Stop}
-use Rattle.parser.specs.declared.Seen.{Seen}
-use Rattle.parser.specs.declared.Seen.TheVariants.{At, Nothing}
+use Rattle.parser.specs.Tables.{Node, Stop}
+use Rattle.std.specs.Prelude.{Option}
+use Rattle.std.specs.Prelude.{Some, None}
 use Rattle.parser.specs.Tokens.{View, count, kind_at, check_at, matches_at}
 use Rattle.parser.specs.Tables.{Reply, reply, moved, looked, looped, fresh_state, push_node, push_error, if_seen, and_then, consume_at, require_at}
 use Rattle.parser.specs.Programs.{Reader, Which, Declaration, Assignment, Operand, Prog, give, stop, ◌>>=◌, ◌>>◌, look, check, at_end, previous, node, link, fail, fail_at, consume, require, enter_loop, leave_loop, give_back, inside_loop, in_function, down, either, restored, run}
@@ -383,9 +383,9 @@ left_after : (r : Reply) (k : Found → Reader) → Left r → ((f : Found) (q :
 left_after (reply q (Node f) E N) k h g = g f q E N
 left_after (reply q (Stop o) E N) k h g = record { left = h.left }
 
-left_seen : (s : Seen) (f : ℕ → Reply) (g : Unit {0} → Reply) → ((i : ℕ) → s ≡ At i → Left (f i)) → Left (g tt) → Left (if_seen s f g)
-left_seen (At i) f g h e = h i refl
-left_seen Nothing f g h e = e
+left_seen : (s : Option ℕ) (f : ℕ → Reply) (g : Unit {0} → Reply) → ((i : ℕ) → s ≡ Some i → Left (f i)) → Left (g tt) → Left (if_seen s f g)
+left_seen (Some i) f g h e = h i refl
+left_seen None f g h e = e
 
 left_either : (b : Bool) (f g : Unit {0} → Reply) → Left (f tt) → Left (g tt) → Left (either b f g)
 left_either true f g h e = h

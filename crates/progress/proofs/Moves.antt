@@ -8,10 +8,10 @@ use lib.Dec.{eqb}
 use Rattle.records.specs.declared.Node as rows
 use Rattle.parser.specs.declared.State.{State}
 use Rattle.parser.specs.declared.Found.{Found}
-use Rattle.parser.specs.declared.Got.{Got}
-use Rattle.parser.specs.declared.Got.TheVariants.{Node, Stop}
-use Rattle.parser.specs.declared.Seen.{Seen}
-use Rattle.parser.specs.declared.Seen.TheVariants.{At, Nothing}
+use Rattle.parser.specs.Tables.{Got}
+use Rattle.parser.specs.Tables.{Node, Stop}
+use Rattle.std.specs.Prelude.{Option}
+use Rattle.std.specs.Prelude.{Some, None}
 use Rattle.parser.specs.Tokens.{View, count, kind_at, matches_at}
 use Rattle.parser.specs.Tables.{Reply, reply, moved, looked, looped, push_node, push_error, if_seen, and_then, consume_at, require_at}
 use Rattle.parser.specs.Programs.{Reader, Which, Declaration, Assignment, Operand, Prog, give, stop, ◌>>=◌, ◌>>◌, look, check, at_end, previous, node, link, fail, fail_at, consume, require, enter_loop, leave_loop, give_back, inside_loop, in_function, down, either, restored, run}
@@ -40,9 +40,9 @@ pub past_then : (z a : ℕ) (c : Type 0) (b : ℕ) (d : Type 0) (r : Reply) (k :
 past_then z a c b d (reply q (Node f) E N) k h g = g f q E N h.past.0 h.past.1
 past_then z a c b d (reply q (Stop o) E N) k h g = record { past = h.past }
 
-pub past_seen : (z a : ℕ) (c : Type 0) (s : Seen) (f : ℕ → Reply) (g : Unit {0} → Reply) → ((i : ℕ) → s ≡ At i → Past z a c (f i)) → Past z a c (g tt) → Past z a c (if_seen s f g)
-past_seen z a c (At i) f g h e = h i refl
-past_seen z a c Nothing f g h e = e
+pub past_seen : (z a : ℕ) (c : Type 0) (s : Option ℕ) (f : ℕ → Reply) (g : Unit {0} → Reply) → ((i : ℕ) → s ≡ Some i → Past z a c (f i)) → Past z a c (g tt) → Past z a c (if_seen s f g)
+past_seen z a c (Some i) f g h e = h i refl
+past_seen z a c None f g h e = e
 
 past_either : (z a : ℕ) (c : Type 0) (b : Bool) (f g : Unit {0} → Reply) → Past z a c (f tt) → Past z a c (g tt) → Past z a c (either b f g)
 past_either z a c true f g h e = h
@@ -63,7 +63,7 @@ unfolding consume_at
 past_consume z a c T kind m p E N y h g = past_seen _ _ _ _ _ _ (λ i e. let u = matches_on T p.current kind i e in record { past = (omega arith, g) }) (past_error _ _ _ _ _ _ _ _ _ y h g)
 
 -- an unwrapped `consume` gives a node only after its token
-past_require : (z a : ℕ) (c : Type 0) (T : View) (kind m : ℕ) (p : State) (E N : List ℕ) → z ≤ p.current → ((i : ℕ) → matches_at T p.current kind ≡ At i → (a ≤ i) × c) → Past z a c (require_at T kind m p E N)
+past_require : (z a : ℕ) (c : Type 0) (T : View) (kind m : ℕ) (p : State) (E N : List ℕ) → z ≤ p.current → ((i : ℕ) → matches_at T p.current kind ≡ Some i → (a ≤ i) × c) → Past z a c (require_at T kind m p E N)
 unfolding require_at
 past_require z a c T kind m p E N y h = past_seen _ _ _ _ _ _ (λ i e. record { past = h i e }) (past_then z a c p.current (Unit {0}) _ _ (past_error z _ _ T.tokens m p.current (looked p 1) E N y (omega arith) tt) λ f q E N b x. record { past = omega arith })
 

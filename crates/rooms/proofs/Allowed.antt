@@ -9,11 +9,11 @@ use native.Mathlib.Omega.{arith}
 use lib.Dec.{eqb}
 use Rattle.token.specs.Kind.{class_kind}
 use Rattle.records.proofs.Room.{lt_or_le}
-use Rattle.parser.specs.declared.Seen.{Seen}
-use Rattle.parser.specs.declared.Seen.TheVariants.{At, Nothing}
+use Rattle.std.specs.Prelude.{Option}
+use Rattle.std.specs.Prelude.{Some, None}
 use Rattle.parser.specs.Tokens.{View, kind_at, after, check_at, matches_at}
 use Rattle.parser.proofs.Look.{after_in}
-use Rattle.progress.proofs.Leaf.{At-inj, Nothing-not, check_at_lem, matches_on}
+use Rattle.progress.proofs.Leaf.{Some-inj, None-not, check_at_lem, matches_on}
 use Rattle.rooms.specs.Allowed.{Counted, nodes, errors, allows, allowed}
 
 -- ---- one token
@@ -62,18 +62,18 @@ module _ (x : Counted) (T : List ℕ) where
 
 -- a token that is passed adds its part
 module _ (x : Counted) (T : View) where
-  pub allowed_match : (at kind i : ℕ) → matches_at T at kind ≡ At i → allowed x T.tokens at + allows x kind ≤ allowed x T.tokens i
+  pub allowed_match : (at kind i : ℕ) → matches_at T at kind ≡ Some i → allowed x T.tokens at + allows x kind ≤ allowed x T.tokens i
   unfolding matches_at
   allowed_match at zero i e = let h = allowed_on x T.tokens at i (matches_on T at 0 i e) in omega arith
   allowed_match at (suc k) i e = go (check_at T at (suc k)) refl e
     where
-      go : (s : Seen) → check_at T at (suc k) ≡ s → (elim s [ At j ↦ At (after T.tokens j) | Nothing ↦ Nothing ]) ≡ At i → allowed x T.tokens at + allows x (suc k) ≤ allowed x T.tokens i
-      go (At j) t e =
+      go : (s : Option ℕ) → check_at T at (suc k) ≡ s → (elim s [ Some j ↦ Some (after T.tokens j) | None ↦ None ]) ≡ Some i → allowed x T.tokens at + allows x (suc k) ≤ allowed x T.tokens i
+      go (Some j) t e =
           let c = check_at_lem T at (suc k) j t in
           let a = after_in T.tokens j (λ z. let y = c.1 in omega arith) in
-          let b = At-inj (after T.tokens j) i e in
+          let b = Some-inj (after T.tokens j) i e in
           let h = allowed_on x T.tokens at j c.0 in
           let n : allowed x T.tokens (j + 1) ≡ allowed x T.tokens j + allows x (suc k) = subst (λ (m : ℕ). allowed x T.tokens (j + 1) ≡ allowed x T.tokens j + allows x m) c.1 (allowed_next x T.tokens j) in
           let o = allowed_on x T.tokens (j + 1) i (omega arith) in
           omega arith
-      go Nothing t e = Nothing-not i e
+      go None t e = None-not i e

@@ -8,7 +8,7 @@ use lib.Dec.{eqb}
 use Rattle.token.specs.Kind.{newline_kind}
 use Rattle.records.specs.Table.{room, linked, error_width, node_width}
 use Rattle.parser.specs.declared.State.{State}
-use Rattle.parser.specs.declared.Got.TheVariants.{Node, Stop}
+use Rattle.parser.specs.Tables.{Node, Stop}
 use Rattle.parser.specs.Tokens.{View, count, kind_at}
 use Rattle.parser.specs.Tables.{Reply, reply, fresh_state}
 use Rattle.parser.specs.Programs.{Which, Declaration, Assignment, Operand}

@@ -16,9 +16,9 @@ use Rattle.records.proofs.Put.{put_length}
 use Rattle.records.proofs.Rest.{linked_length}
 use Rattle.parser.specs.declared.State.{State}
 use Rattle.parser.specs.declared.Found.{Found}
-use Rattle.parser.specs.declared.Got.TheVariants.{Node, Stop}
-use Rattle.parser.specs.declared.Seen.{Seen}
-use Rattle.parser.specs.declared.Seen.TheVariants.{At, Nothing}
+use Rattle.parser.specs.Tables.{Node, Stop}
+use Rattle.std.specs.Prelude.{Option}
+use Rattle.std.specs.Prelude.{Some, None}
 use Rattle.parser.specs.Tokens.{View, kind_at, check_at, matches_at}
 use Rattle.parser.specs.Tables.{Reply, reply, looped, error_at, node_made, error_made, push_node, push_error, if_seen, and_then, consume_at, require_at}
 use Rattle.parser.specs.Programs.{Reader, Which, Declaration, Assignment, Operand, Prog, give, stop, ◌>>=◌, ◌>>◌, look, check, at_end, previous, node, link, fail, fail_at, consume, require, enter_loop, leave_loop, give_back, inside_loop, in_function, down, either, restored, run}
@@ -102,9 +102,9 @@ module _ (x : Counted) (T : View) (R u b D : ℕ) where
   owed_then c (reply q (Node f) E N) k h g = g f q E N h.owed.0 h.owed.1
   owed_then c (reply q (Stop o) E N) k h g = record { owed = h.owed }
 
-  owed_seen : (s : Seen) (f : ℕ → Reply) (g : Unit {0} → Reply) → ((i : ℕ) → s ≡ At i → Owed x T R u b D (f i)) → Owed x T R u b D (g tt) → Owed x T R u b D (if_seen s f g)
-  owed_seen (At i) f g h e = h i refl
-  owed_seen Nothing f g h e = e
+  owed_seen : (s : Option ℕ) (f : ℕ → Reply) (g : Unit {0} → Reply) → ((i : ℕ) → s ≡ Some i → Owed x T R u b D (f i)) → Owed x T R u b D (g tt) → Owed x T R u b D (if_seen s f g)
+  owed_seen (Some i) f g h e = h i refl
+  owed_seen None f g h e = e
 
   owed_either : (t : Bool) (f g : Unit {0} → Reply) → Owed x T R u b D (f tt) → Owed x T R u b D (g tt) → Owed x T R u b D (either t f g)
   owed_either true f g h e = h

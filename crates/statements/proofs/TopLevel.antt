@@ -7,8 +7,8 @@ use lib.Dec.{eqb}
 use Rattle.records.specs.Table.{linked, zeroed, node_width}
 use Rattle.parser.specs.declared.State.{State}
 use Rattle.parser.specs.declared.Found.{Found}
-use Rattle.parser.specs.declared.Got.{Got}
-use Rattle.parser.specs.declared.Got.TheVariants.{Node, Stop}
+use Rattle.parser.specs.Tables.{Got}
+use Rattle.parser.specs.Tables.{Node, Stop}
 use Rattle.parser.specs.Tokens.{View, count, kind_at}
 use Rattle.parser.specs.Tables.{Reply, reply}
 use Rattle.parser.specs.Grammar.{first_of}

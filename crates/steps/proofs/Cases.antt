@@ -10,8 +10,8 @@ use Rattle.records.specs.Table.{linked}
 use Rattle.lexer.specs.declared.Scanned.{Scanned}
 use Rattle.parser.specs.declared.State as state
 use Rattle.parser.specs.declared.Found.{Found}
-use Rattle.parser.specs.declared.Got.{Got}
-use Rattle.parser.specs.declared.Got.TheVariants.{Node, Stop}
+use Rattle.parser.specs.Tables.{Got}
+use Rattle.parser.specs.Tables.{Node, Stop}
 use Rattle.parser.specs.Tokens.{kind_at, indexed}
 use Rattle.parser.specs.Tables.{Reply, reply}
 use Rattle.parser.specs.Whole.{top_level}

@@ -4,7 +4,7 @@ use Rattle.token.specs.Kind.{eof_kind}
 use Rattle.records.specs.Table.{linked, zeroed, node_width}
 use Rattle.records.specs.Outcomes as outcomes
 use Rattle.rules.specs.Rules.{known}
-use Rattle.parser.specs.declared.Got.TheVariants.{Node, Stop}
+use Rattle.parser.specs.Tables.{Node, Stop}
 use Rattle.parser.specs.Tokens.{kind_at, indexed}
 use Rattle.parser.specs.Tables.{Reply, reply}
 use Rattle.parser.specs.Whole.{top_level}

@@ -20,9 +20,9 @@ use Rattle.parser.specs.declared.State.{State}
 use Rattle.parser.specs.declared.Form.{Form}
 use Rattle.parser.specs.declared.Form.TheVariants.{Other, Empty, Name, Property}
 use Rattle.parser.specs.declared.Found.{Found}
-use Rattle.parser.specs.declared.Got.TheVariants.{Node, Stop}
-use Rattle.parser.specs.declared.Seen.{Seen}
-use Rattle.parser.specs.declared.Seen.TheVariants.{At, Nothing}
+use Rattle.parser.specs.Tables.{Node, Stop}
+use Rattle.std.specs.Prelude.{Option}
+use Rattle.std.specs.Prelude.{Some, None}
 use Rattle.parser.specs.Tokens.{View, count, kind_at, after, skip_lines, seen_if, check_at, matches_at}
 use Rattle.parser.specs.Tables.{Reply, reply, looped, plain, push_node, push_error, if_seen, and_then, consume_at, require_at}
 use Rattle.parser.specs.Programs.{Reader, Which, Declaration, Assignment, Operand, Prog, give, stop, ◌>>=◌, ◌>>◌, look, check, at_end, previous, node, link, fail, fail_at, consume, require, enter_loop, leave_loop, give_back, inside_loop, in_function, down, either, restored, run}
@@ -71,18 +71,18 @@ pub record Both (S T : List ℕ) (kind i : ℕ) : Type 0 where
   pub first : kind_at S i ≡ kind
   pub second : kind_at T i ≡ kind
 
-abbrev Spotted : List ℕ → List ℕ → ℕ → Seen → Type 0
-Spotted S T kind (At i) = Both S T kind i
-Spotted S T kind Nothing = Unit {0}
+abbrev Spotted : List ℕ → List ℕ → ℕ → Option ℕ → Type 0
+Spotted S T kind (Some i) = Both S T kind i
+Spotted S T kind None = Unit {0}
 
 -- reference i names a token of the kind
 pub record Token (T : List ℕ) (kind i : ℕ) : Type 0 where
   pub within : i ≤ count T
   pub seen : kind_at T (i - 1) ≡ kind
 
-abbrev Passed : List ℕ → ℕ → Seen → Type 0
-Passed T kind (At i) = Token T kind i
-Passed T kind Nothing = Unit {0}
+abbrev Passed : List ℕ → ℕ → Option ℕ → Type 0
+Passed T kind (Some i) = Token T kind i
+Passed T kind None = Unit {0}
 
 seen_kind : (S T : List ℕ) (kind i : ℕ) → (kind_at S i ≡ kind → kind_at T i ≡ kind) → (b : Bool) → eqb (kind_at S i) kind ≡ b → Spotted S T kind (seen_if b i)
 unfolding seen_if
@@ -112,9 +112,9 @@ module _ (U : View) (T : List ℕ) (c : Covers U T) where
   unfolding matches_at
   matches_kind i k l = go (check_at U i (suc k)) (check_kind i k l)
     where
-      go : (s : Seen) → Spotted U.tokens T (suc k) s → Passed T (suc k) (elim s [ At j ↦ At (after U.tokens j) | Nothing ↦ Nothing ])
-      go (At j) x = after_kind U.tokens T k j x
-      go Nothing x = tt
+      go : (s : Option ℕ) → Spotted U.tokens T (suc k) s → Passed T (suc k) (elim s [ Some j ↦ Some (after U.tokens j) | None ↦ None ])
+      go (Some j) x = after_kind U.tokens T k j x
+      go None x = tt
 
 -- ---- what is found
 -- what may stand left of `=` refers to a token, and to an expression that is no list's member
@@ -251,13 +251,13 @@ module _ (T : List ℕ) where
   done_then b R' R N (reply q (Node f) E M) k x g = done_kept b R N M (k f q E M) x.done.0 (g f q E M x.done.1 x.done.2)
   done_then b R' R N (reply q (Stop w) E M) k x g = record { done = x.done }
 
-  done_passed : (b : ℕ) (R : Found → ℕ → List ℕ → Type 0) (N : List ℕ) (kind : ℕ) (s : Seen) (f : ℕ → Reply) (g : Unit {0} → Reply) → Passed T kind s → ((i : ℕ) → Token T kind i → Done b R N (f i)) → Done b R N (g tt) → Done b R N (if_seen s f g)
-  done_passed b R N kind (At i) f g t h e = h i t
-  done_passed b R N kind Nothing f g t h e = e
+  done_passed : (b : ℕ) (R : Found → ℕ → List ℕ → Type 0) (N : List ℕ) (kind : ℕ) (s : Option ℕ) (f : ℕ → Reply) (g : Unit {0} → Reply) → Passed T kind s → ((i : ℕ) → Token T kind i → Done b R N (f i)) → Done b R N (g tt) → Done b R N (if_seen s f g)
+  done_passed b R N kind (Some i) f g t h e = h i t
+  done_passed b R N kind None f g t h e = e
 
-  done_spotted : (b : ℕ) (R : Found → ℕ → List ℕ → Type 0) (N : List ℕ) (k : ℕ) (S : List ℕ) (s : Seen) (f : ℕ → Reply) (g : Unit {0} → Reply) → Spotted S T (suc k) s → ((i : ℕ) → i ≤ count T → Done b R N (f i)) → Done b R N (g tt) → Done b R N (if_seen s f g)
-  done_spotted b R N k S (At i) f g t h e = let l = kind_inside T i k t.second in h i (omega arith)
-  done_spotted b R N k S Nothing f g t h e = e
+  done_spotted : (b : ℕ) (R : Found → ℕ → List ℕ → Type 0) (N : List ℕ) (k : ℕ) (S : List ℕ) (s : Option ℕ) (f : ℕ → Reply) (g : Unit {0} → Reply) → Spotted S T (suc k) s → ((i : ℕ) → i ≤ count T → Done b R N (f i)) → Done b R N (g tt) → Done b R N (if_seen s f g)
+  done_spotted b R N k S (Some i) f g t h e = let l = kind_inside T i k t.second in h i (omega arith)
+  done_spotted b R N k S None f g t h e = e
 
   done_either : (b : ℕ) (R : Found → ℕ → List ℕ → Type 0) (N : List ℕ) (t : Bool) (f g : Unit {0} → Reply) → Done b R N (f tt) → Done b R N (g tt) → Done b R N (either t f g)
   done_either b R N true f g x y = x

@@ -14,7 +14,7 @@ use Rattle.records.proofs.Field.{field_same}
 use Rattle.records.proofs.Rest.{zeroed_length, zeroed_take}
 use Rattle.parser.specs.declared.State.{State}
 use Rattle.parser.specs.declared.Found.{Found}
-use Rattle.parser.specs.declared.Got.TheVariants.{Node, Stop}
+use Rattle.parser.specs.Tables.{Node, Stop}
 use Rattle.parser.specs.Tokens.{View, count, kind_at}
 use Rattle.parser.specs.Tables.{Reply, reply, fresh_state, consume_at}
 use Rattle.parser.specs.Programs.{Which, Declaration, consume, run}

@@ -14,9 +14,9 @@ use Rattle.parser.specs.declared.State.{State}
 use Rattle.parser.specs.declared.Form.{Form}
 use Rattle.parser.specs.declared.Form.TheVariants.{Other, Empty, Name, Property}
 use Rattle.parser.specs.declared.Found.{Found}
-use Rattle.parser.specs.declared.Got.TheVariants.{Node, Stop}
-use Rattle.parser.specs.declared.Seen.{Seen}
-use Rattle.parser.specs.declared.Seen.TheVariants.{At, Nothing}
+use Rattle.parser.specs.Tables.{Node, Stop}
+use Rattle.std.specs.Prelude.{Option}
+use Rattle.std.specs.Prelude.{Some, None}
 use Rattle.parser.specs.Tokens.{View, kind_at, matches_at}
 use Rattle.parser.specs.Tables.{Reply, reply, moved, looked, looped, push_node, push_error, if_seen, and_then, consume_at, require_at}
 use Rattle.parser.specs.Programs.{Reader, Which, Declaration, Assignment, Operand, Prog, give, stop, ◌>>=◌, ◌>>◌, look, check, at_end, previous, node, link, fail, fail_at, consume, require, enter_loop, leave_loop, give_back, inside_loop, in_function, down, either, restored, raised, run}
@@ -274,9 +274,9 @@ low_then : (r : Reply) (k : Found → Reader) → Low r → ((f : Found) → Sta
 low_then (reply q (Node f) E N) k h g = g f q E N h.low
 low_then (reply q (Stop o) E N) k h g = record { low = tt }
 
-low_seen : (s : Seen) (f : ℕ → Reply) (g : Unit {0} → Reply) → ((i : ℕ) → s ≡ At i → Low (f i)) → Low (g tt) → Low (if_seen s f g)
-low_seen (At i) f g h e = h i refl
-low_seen Nothing f g h e = e
+low_seen : (s : Option ℕ) (f : ℕ → Reply) (g : Unit {0} → Reply) → ((i : ℕ) → s ≡ Some i → Low (f i)) → Low (g tt) → Low (if_seen s f g)
+low_seen (Some i) f g h e = h i refl
+low_seen None f g h e = e
 
 low_either : (b : Bool) (f g : Unit {0} → Reply) → Low (f tt) → Low (g tt) → Low (either b f g)
 low_either true f g h e = h
@@ -311,7 +311,7 @@ raised_most n = go (ltb n 4294967295)
     go false = omega arith
 
 -- a look passes as many tokens as its kind says
-passed : (T : View) (at kind i : ℕ) → matches_at T at kind ≡ At i → at + passes kind ≤ i
+passed : (T : View) (at kind i : ℕ) → matches_at T at kind ≡ Some i → at + passes kind ≤ i
 passed T at zero i e = let u = matches_on T at 0 i e in omega arith
 passed T at (suc kind) i e = let u = (matches_at_lem T at kind i e).0 in omega arith
 

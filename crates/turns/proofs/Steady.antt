@@ -15,7 +15,7 @@ use Rattle.records.proofs.Room.{room_length}
 use Rattle.records.proofs.Rest.{linked_length}
 use Rattle.parser.specs.declared.State as state
 use Rattle.parser.specs.declared.Found.{Found}
-use Rattle.parser.specs.declared.Got.TheVariants.{Node, Stop}
+use Rattle.parser.specs.Tables.{Node, Stop}
 use Rattle.parser.specs.Tokens.{View, count, kind_at, skip_lines, indexed}
 use Rattle.parser.specs.Tables.{Reply, reply, and_then, consume_at}
 use Rattle.parser.specs.Programs.{Declaration}

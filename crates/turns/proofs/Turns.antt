@@ -9,7 +9,7 @@ use lib.Dec.{eqb}
 use borrow.Author.Tests.{eqb-true}
 use Rattle.rules.specs.Rules.{known}
 use Rattle.records.specs.Table.{linked, zeroed, node_width}
-use Rattle.parser.specs.declared.Got.TheVariants.{Node, Stop}
+use Rattle.parser.specs.Tables.{Node, Stop}
 use Rattle.parser.specs.Tokens.{count, kind_at, walked, indexed}
 use Rattle.parser.specs.Tables.{Reply, reply}
 use Rattle.parser.specs.Grammar.{first_of}

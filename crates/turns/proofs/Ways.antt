@@ -12,7 +12,7 @@ use Rattle.rules.specs.Rules.{two, known}
 use Rattle.records.specs.Table.{room, linked, token_width, error_width}
 use Rattle.lexer.specs.Lex.{lexed_of}
 use Rattle.parser.specs.declared.State.{State}
-use Rattle.parser.specs.declared.Got.TheVariants.{Node, Stop}
+use Rattle.parser.specs.Tables.{Node, Stop}
 use Rattle.parser.specs.Tokens.{kind_at, indexed}
 use Rattle.parser.specs.Tables.{Reply, reply, fresh_state}
 use Rattle.parser.specs.Grammar.{first_of}

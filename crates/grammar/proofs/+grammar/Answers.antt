@@ -13,7 +13,7 @@ use Rattle.parser.specs.Nodes.{if_row}
 use Rattle.parser.specs.Programs.{Assignment, Declaration, Operand, run}
 use Rattle.parser.specs.Tables.{and_then, push_node, reply}
 use Rattle.parser.specs.Tokens.{count, indexed}
-use Rattle.parser.specs.declared.Got.TheVariants.{Node}
+use Rattle.parser.specs.Tables.{Node}
 use Rattle.parser.specs.declared.Out.{Out}
 use Rattle.parser.specs.declared.State.{State}
 use Rattle.pieces.proofs.NextKind.{peeked}
@@ -25,26 +25,26 @@ use Rattle.grammar.proofs.+grammar.Invariants.{operations_from, suffixes_from}
 use Rattle.grammar.proofs.+grammar.Goals as goal
 
 -- ---- access
-pub access-returns-in-At : goal.access-returns-in-At
+pub access-returns-in-Some : goal.access-returns-in-Some
 unfolding run access
-access-returns-in-At t c = rw (← c.matches.ensures, c.in-At.is) (rw c.at_token.ensures at c.upto.ensures)
+access-returns-in-Some t c = rw (← c.matches.ensures, c.in-Some.is) (rw c.at_token.ensures at c.upto.ensures)
 
 pub access-returns-in_default-k : goal.access-returns-in_default-k
 unfolding run access
 access-returns-in_default-k t c = rw (← c.matches.ensures, c.in_default.is, ← c.looked.ensures) (rw (← c.assignment-g.ensures, c.in_default-k.is))
 
-pub access-returns-in-At-matches : goal.access-returns-in-At-matches
+pub access-returns-in-Some-matches : goal.access-returns-in-Some-matches
 unfolding run access
-access-returns-in-At-matches t c = rw (← c.matches.ensures, c.in_default.is, ← c.looked.ensures) (rw (← c.assignment-g.ensures, c.in-Node.is, ← c.matches-2.ensures) (rw c.in-At-matches.is (rw c.at_token-in-At-matches.ensures at c.slice.ensures)))
+access-returns-in-Some-matches t c = rw (← c.matches.ensures, c.in_default.is, ← c.looked.ensures) (rw (← c.assignment-g.ensures, c.in-Node.is, ← c.matches-2.ensures) (rw c.in-Some-matches.is (rw c.at_token-in-Some-matches.ensures at c.slice.ensures)))
 
 pub access-returns : goal.access-returns
 unfolding run access
 access-returns t c = rw (← c.matches.ensures, c.in_default.is, ← c.looked.ensures) (rw (← c.assignment-g.ensures, c.in-Node.is, ← c.matches-2.ensures) (rw (c.in_default-matches.is, ← c.looked-2.ensures, ← c.close_access.ensures (lower (indexed c.args.tokens.now c.args.index.now) c.args.levels))))
 
 -- ---- arguments
-pub arguments-returns-in-At : goal.arguments-returns-in-At
+pub arguments-returns-in-Some : goal.arguments-returns-in-Some
 unfolding run arguments
-arguments-returns-in-At t c = rw (← c.check.ensures, c.in-At.is, ← c.at_token.ensures) (rw c.gives.ensures)
+arguments-returns-in-Some t c = rw (← c.check.ensures, c.in-Some.is, ← c.at_token.ensures) (rw c.gives.ensures)
 
 pub arguments-loop-n-init : goal.arguments-loop-n-init
 arguments-loop-n-init t c = record { fuel = count c.args.tokens.now; enough = omega arith; passed = omega arith; same = refl; errors = refl; nodes = refl }
@@ -79,18 +79,18 @@ pub arguments-returns-in_default-matches : goal.arguments-returns-in_default-mat
 unfolding run arguments_from
 arguments-returns-in_default-matches t c = rw (arguments_head_3 t c, c.if-mark-n.false, ← c.assignment-g.ensures) (rw (c.in-Node.is, ← c.link.ensures, ← c.first_of-first.ensures) (rw (← c.matches.ensures, c.in_default-matches.is, ← c.looked.ensures) (rw c.gives-in_default-matches.ensures)))
 
-arguments_head_4 : (t : ℕ) (c : goal.arguments-After-gives-in-At-check t) → run (indexed c.args.tokens.now c.args.index.now) (lower (indexed c.args.tokens.now c.args.index.now) c.args.levels) (arguments (indexed c.args.tokens.now c.args.index.now) c.args.mark) c.args.p c.args.errors.now c.args.nodes.now ≡ run (indexed c.args.tokens.now c.args.index.now) (lower (indexed c.args.tokens.now c.args.index.now) c.args.levels) (arguments_from (indexed c.args.tokens.now c.args.index.now) c.args.mark (suc c.loop-n.invariant.fuel) c.loop-n.n c.loop-n.first c.loop-n.last) c.loop-n.s c.loop-n.errors c.loop-n.nodes
+arguments_head_4 : (t : ℕ) (c : goal.arguments-After-gives-in-Some-check t) → run (indexed c.args.tokens.now c.args.index.now) (lower (indexed c.args.tokens.now c.args.index.now) c.args.levels) (arguments (indexed c.args.tokens.now c.args.index.now) c.args.mark) c.args.p c.args.errors.now c.args.nodes.now ≡ run (indexed c.args.tokens.now c.args.index.now) (lower (indexed c.args.tokens.now c.args.index.now) c.args.levels) (arguments_from (indexed c.args.tokens.now c.args.index.now) c.args.mark (suc c.loop-n.invariant.fuel) c.loop-n.n c.loop-n.first c.loop-n.last) c.loop-n.s c.loop-n.errors c.loop-n.nodes
 unfolding run arguments
 arguments_head_4 t c = rw (← c.check.ensures, c.in_default.is, ← c.looked-s.ensures) (sym c.loop-n.invariant.same)
 
-pub arguments-returns-in-At-check : goal.arguments-returns-in-At-check
+pub arguments-returns-in-Some-check : goal.arguments-returns-in-Some-check
 unfolding run arguments_from
-arguments-returns-in-At-check t c = rw (arguments_head_4 t c, c.if-mark-n.false, ← c.assignment-g.ensures) (rw (c.in-Node.is, ← c.link.ensures, ← c.first_of-first.ensures) (rw (← c.matches.ensures, c.in-At-matches.is, ← c.check-in-loop-n.ensures) (rw (c.in-At-check.is, ← (rw c.at_token-v.ensures at c.at_token-in-At-check.ensures), c.gives-in-At-check.ensures))))
+arguments-returns-in-Some-check t c = rw (arguments_head_4 t c, c.if-mark-n.false, ← c.assignment-g.ensures) (rw (c.in-Node.is, ← c.link.ensures, ← c.first_of-first.ensures) (rw (← c.matches.ensures, c.in-Some-matches.is, ← c.check-in-loop-n.ensures) (rw (c.in-Some-check.is, ← (rw c.at_token-v.ensures at c.at_token-in-Some-check.ensures), c.gives-in-Some-check.ensures))))
 
 arguments_turn : (t : ℕ) (c : goal.arguments-After-looked-s-in-loop-n t) → (c.loop-n.s.current < c.looked-s-in-loop-n.result.current) × (c.loop-n.s.current < count c.args.tokens.now)
 arguments_turn t c =
     let a = reading_past (indexed c.args.tokens.now c.args.index.now) c.args.levels Assignment _ _ _ _ _ _ _ _ c.assignment-g.ensures c.in-Node.is in
-    let g = found_past _ _ _ _ _ c.matches.ensures c.in-At-matches.is refl in
+    let g = found_past _ _ _ _ _ c.matches.ensures c.in-Some-matches.is refl in
     let e = ap (λ (x : State). x.current) c.at_token-v.ensures in
     let f = ap (λ (x : State). x.current) c.looked-s-in-loop-n.ensures in
     (omega arith, a.0)
@@ -100,7 +100,7 @@ arguments-loop-n-smaller t c = let g = arguments_turn t c in omega arith
 
 arguments_again : (t : ℕ) (c : goal.arguments-After-looked-s-in-loop-n t) → run (indexed c.args.tokens.now c.args.index.now) (lower (indexed c.args.tokens.now c.args.index.now) c.args.levels) (arguments_from (indexed c.args.tokens.now c.args.index.now) c.args.mark c.loop-n.invariant.fuel (c.loop-n.n + 1) c.first_of-first.result c.in-Node.e.node) c.looked-s-in-loop-n.result c.assignment-g.new.errors c.link.new.nodes ≡ run (indexed c.args.tokens.now c.args.index.now) (lower (indexed c.args.tokens.now c.args.index.now) c.args.levels) (arguments_from (indexed c.args.tokens.now c.args.index.now) c.args.mark (suc c.loop-n.invariant.fuel) c.loop-n.n c.loop-n.first c.loop-n.last) c.loop-n.s c.loop-n.errors c.loop-n.nodes
 unfolding run arguments_from
-arguments_again t c = rw (c.if-mark-n.false, ← c.assignment-g.ensures, c.in-Node.is) (rw (← c.link.ensures, ← c.first_of-first.ensures, ← c.matches.ensures) (rw (c.in-At-matches.is, ← c.check-in-loop-n.ensures, c.in_default-check.is) (rw (← (rw c.at_token-v.ensures at c.looked-s-in-loop-n.ensures)))))
+arguments_again t c = rw (c.if-mark-n.false, ← c.assignment-g.ensures, c.in-Node.is) (rw (← c.link.ensures, ← c.first_of-first.ensures, ← c.matches.ensures) (rw (c.in-Some-matches.is, ← c.check-in-loop-n.ensures, c.in_default-check.is) (rw (← (rw c.at_token-v.ensures at c.looked-s-in-loop-n.ensures)))))
 
 pub arguments-loop-n-preserved : goal.arguments-loop-n-preserved
 arguments-loop-n-preserved t c =
@@ -133,14 +133,14 @@ unfolding run body assignment
 assignment-returns-in_default-k t c =
     let z = lower_step (indexed c.args.tokens.now c.args.index.now) c.args.levels Assignment c.args.p c.args.errors.now c.args.nodes.now c.if-levels-eq0.false in
     let a = turns_all (indexed c.args.tokens.now c.args.index.now) (lower (indexed c.args.tokens.now c.args.index.now) (c.args.levels - 1)) 0 c.args.p c.args.errors.now c.args.nodes.now in
-    rw (c.passed-in_default-k.ensures, z, a) (rw (← c.unary-first.ensures, ← c.binary-g.ensures, c.in-Node.is) (rw (← c.matches.ensures, c.in-At.is, ← c.at_token.ensures) (rw (← c.assignment-h.ensures, c.in_default-k.is))))
+    rw (c.passed-in_default-k.ensures, z, a) (rw (← c.unary-first.ensures, ← c.binary-g.ensures, c.in-Node.is) (rw (← c.matches.ensures, c.in-Some.is, ← c.at_token.ensures) (rw (← c.assignment-h.ensures, c.in_default-k.is))))
 
 pub assignment-returns : goal.assignment-returns
 unfolding run body assignment
 assignment-returns t c =
     let z = lower_step (indexed c.args.tokens.now c.args.index.now) c.args.levels Assignment c.args.p c.args.errors.now c.args.nodes.now c.if-levels-eq0.false in
     let a = turns_all (indexed c.args.tokens.now c.args.index.now) (lower (indexed c.args.tokens.now c.args.index.now) (c.args.levels - 1)) 0 c.args.p c.args.errors.now c.args.nodes.now in
-    rw (z, a, ← c.unary-first.ensures) (rw (← c.binary-g.ensures, c.in-Node.is, ← c.matches.ensures) (rw (c.in-At.is, ← c.at_token.ensures, ← c.assignment-h.ensures) (rw (c.in-Node-k.is, ← c.assigned.ensures (lower (indexed c.args.tokens.now c.args.index.now) (c.args.levels - 1)) c.args.index.now))))
+    rw (z, a, ← c.unary-first.ensures) (rw (← c.binary-g.ensures, c.in-Node.is, ← c.matches.ensures) (rw (c.in-Some.is, ← c.at_token.ensures, ← c.assignment-h.ensures) (rw (c.in-Node-k.is, ← c.assigned.ensures (lower (indexed c.args.tokens.now c.args.index.now) (c.args.levels - 1)) c.args.index.now))))
 
 -- ---- binary
 pub binary-loop-rank-init : goal.binary-loop-rank-init
@@ -207,9 +207,9 @@ binary-loop-rank-preserved t c =
 pub block-loop-i-init : goal.block-loop-i-init
 block-loop-i-init t c = record { fuel = count c.args.tokens.now; enough = omega arith; same = refl; errors = refl; nodes = refl }
 
-pub block-returns-in-At : goal.block-returns-in-At
+pub block-returns-in-Some : goal.block-returns-in-Some
 unfolding run block block_from
-block-returns-in-At t c = rw (← c.loop-i.invariant.same, ← c.matches.ensures, c.in-At.is) (rw (← c.at_token.ensures, c.gives.ensures))
+block-returns-in-Some t c = rw (← c.loop-i.invariant.same, ← c.matches.ensures, c.in-Some.is) (rw (← c.at_token.ensures, c.gives.ensures))
 
 pub block-returns-in_default-k : goal.block-returns-in_default-k
 unfolding run block block_from
@@ -423,23 +423,23 @@ elifs-returns-in_default t c = rw (← c.loop-i.invariant.same, ← c.matches.en
 
 pub elifs-returns-in_default-k : goal.elifs-returns-in_default-k
 unfolding run elifs_from
-elifs-returns-in_default-k t c = rw (← c.loop-i.invariant.same, ← c.matches.ensures, c.in-At.is) (rw (← c.at_token.ensures, ← c.assignment-g.ensures, c.in_default-k.is))
+elifs-returns-in_default-k t c = rw (← c.loop-i.invariant.same, ← c.matches.ensures, c.in-Some.is) (rw (← c.at_token.ensures, ← c.assignment-g.ensures, c.in_default-k.is))
 
 pub elifs-returns-in_default-k-2 : goal.elifs-returns-in_default-k-2
 unfolding run elifs_from
-elifs-returns-in_default-k-2 t c = rw (← c.loop-i.invariant.same, ← c.matches.ensures, c.in-At.is) (rw (← c.at_token.ensures, ← c.assignment-g.ensures, c.in-Node.is) (rw (← c.consume-g.ensures c.assignment-g.new.nodes, c.in_default-k-2.is)))
+elifs-returns-in_default-k-2 t c = rw (← c.loop-i.invariant.same, ← c.matches.ensures, c.in-Some.is) (rw (← c.at_token.ensures, ← c.assignment-g.ensures, c.in-Node.is) (rw (← c.consume-g.ensures c.assignment-g.new.nodes, c.in_default-k-2.is)))
 
 pub elifs-returns-in_default-k-3 : goal.elifs-returns-in_default-k-3
 unfolding run elifs_from
-elifs-returns-in_default-k-3 t c = rw (← c.loop-i.invariant.same, ← c.matches.ensures, c.in-At.is) (rw (← c.at_token.ensures, ← c.assignment-g.ensures, c.in-Node.is) (rw (← c.consume-g.ensures c.assignment-g.new.nodes, c.in-Node-k.is, ← c.block-g.ensures) (rw c.in_default-k-3.is)))
+elifs-returns-in_default-k-3 t c = rw (← c.loop-i.invariant.same, ← c.matches.ensures, c.in-Some.is) (rw (← c.at_token.ensures, ← c.assignment-g.ensures, c.in-Node.is) (rw (← c.consume-g.ensures c.assignment-g.new.nodes, c.in-Node-k.is, ← c.block-g.ensures) (rw c.in_default-k-3.is)))
 
 pub elifs-returns-in_default-k-4 : goal.elifs-returns-in_default-k-4
 unfolding run elifs_from
-elifs-returns-in_default-k-4 t c = rw (← c.loop-i.invariant.same, ← c.matches.ensures, c.in-At.is) (rw (← c.at_token.ensures, ← c.assignment-g.ensures, c.in-Node.is) (rw (← c.consume-g.ensures c.assignment-g.new.nodes, c.in-Node-k.is, ← c.block-g.ensures) (rw (c.in-Node-k-2.is, ← c.row.ensures, ← c.make-h.ensures c.block-g.new.errors) (rw c.in_default-k-4.is))))
+elifs-returns-in_default-k-4 t c = rw (← c.loop-i.invariant.same, ← c.matches.ensures, c.in-Some.is) (rw (← c.at_token.ensures, ← c.assignment-g.ensures, c.in-Node.is) (rw (← c.consume-g.ensures c.assignment-g.new.nodes, c.in-Node-k.is, ← c.block-g.ensures) (rw (c.in-Node-k-2.is, ← c.row.ensures, ← c.make-h.ensures c.block-g.new.errors) (rw c.in_default-k-4.is))))
 
 elifs_turn : (t : ℕ) (c : goal.elifs-After-s-1 t) → (c.loop-i.s.current < c.make-h.result.p.current) × (c.loop-i.s.current < count c.args.tokens.now)
 elifs_turn t c =
-    let g = found_past _ _ _ _ _ c.matches.ensures c.in-At.is refl in
+    let g = found_past _ _ _ _ _ c.matches.ensures c.in-Some.is refl in
     let a = ap (λ (x : State). x.current) c.at_token.ensures in
     let b = reading_past (indexed c.args.tokens.now c.args.index.now) c.args.levels Assignment _ _ _ _ _ _ _ _ c.assignment-g.ensures c.in-Node.is in
     let d = consume_on _ _ _ _ _ _ _ [] _ [] (c.consume-g.ensures []) in
@@ -452,7 +452,7 @@ elifs-loop-i-smaller t c = let g = elifs_turn t c in omega arith
 
 elifs_again : (t : ℕ) (c : goal.elifs-After-s-1 t) → run (indexed c.args.tokens.now c.args.index.now) (lower (indexed c.args.tokens.now c.args.index.now) c.args.levels) (elifs_from (indexed c.args.tokens.now c.args.index.now) c.loop-i.invariant.fuel c.first_of-first.result c.in-Node-k-3.n.node) c.make-h.result.p c.block-g.new.errors c.link.new.nodes ≡ run (indexed c.args.tokens.now c.args.index.now) (lower (indexed c.args.tokens.now c.args.index.now) c.args.levels) (elifs_from (indexed c.args.tokens.now c.args.index.now) (suc c.loop-i.invariant.fuel) c.loop-i.first c.loop-i.last) c.loop-i.s c.loop-i.errors c.loop-i.nodes
 unfolding run elifs_from
-elifs_again t c = rw (← c.matches.ensures, c.in-At.is, ← c.at_token.ensures) (rw (← c.assignment-g.ensures, c.in-Node.is, ← c.consume-g.ensures c.assignment-g.new.nodes) (rw (c.in-Node-k.is, ← c.block-g.ensures, c.in-Node-k-2.is) (rw (← c.row.ensures, ← c.make-h.ensures c.block-g.new.errors, c.in-Node-k-3.is) (rw (← c.link.ensures, ← c.first_of-first.ensures)))))
+elifs_again t c = rw (← c.matches.ensures, c.in-Some.is, ← c.at_token.ensures) (rw (← c.assignment-g.ensures, c.in-Node.is, ← c.consume-g.ensures c.assignment-g.new.nodes) (rw (c.in-Node-k.is, ← c.block-g.ensures, c.in-Node-k-2.is) (rw (← c.row.ensures, ← c.make-h.ensures c.block-g.new.errors, c.in-Node-k-3.is) (rw (← c.link.ensures, ← c.first_of-first.ensures)))))
 
 pub elifs-loop-i-preserved : goal.elifs-loop-i-preserved
 elifs-loop-i-preserved t c =
@@ -529,25 +529,25 @@ unfolding run enhanced_for
 for_in-returns t c = rw (← c.names-g.ensures (lower (indexed c.args.tokens.now c.args.index.now) c.args.levels) c.args.errors.now, c.in-Node.is, ← c.consume-h.ensures c.names-g.new.nodes) (rw (c.in-Node-k.is, ← c.assignment-g.ensures, c.in-Node-k-2.is) (rw (← c.declaration-stmt.ensures, ← c.for_node.ensures c.declaration-stmt.new.errors)))
 
 -- ---- for_loop
-pub for_loop-returns-in-At : goal.for_loop-returns-in-At
+pub for_loop-returns-in-Some : goal.for_loop-returns-in-Some
 unfolding run for_loop classic_for
-for_loop-returns-in-At t c = rw (← (rw c.enter_loop-s.ensures at c.check.ensures), c.in-At.is) (rw ((rw c.enter_loop-s.ensures at c.at_token.ensures)) at c.for_in.ensures)
+for_loop-returns-in-Some t c = rw (← (rw c.enter_loop-s.ensures at c.check.ensures), c.in-Some.is) (rw ((rw c.enter_loop-s.ensures at c.at_token.ensures)) at c.for_in.ensures)
 
-pub for_loop-returns-in-At-matches : goal.for_loop-returns-in-At-matches
+pub for_loop-returns-in-Some-matches : goal.for_loop-returns-in-Some-matches
 unfolding run for_loop classic_for
-for_loop-returns-in-At-matches t c = rw (← (rw c.enter_loop-s.ensures at c.check.ensures), c.in_default.is, ← (rw c.enter_loop-s.ensures at c.matches.ensures)) (rw c.in-At-matches.is (rw ((rw c.enter_loop-s.ensures at ((rw c.looked-s.ensures at c.at_token-in-At-matches.ensures)))) at c.for_c.ensures))
+for_loop-returns-in-Some-matches t c = rw (← (rw c.enter_loop-s.ensures at c.check.ensures), c.in_default.is, ← (rw c.enter_loop-s.ensures at c.matches.ensures)) (rw c.in-Some-matches.is (rw ((rw c.enter_loop-s.ensures at ((rw c.looked-s.ensures at c.at_token-in-Some-matches.ensures)))) at c.for_c.ensures))
 
 pub for_loop-returns-in_default-k : goal.for_loop-returns-in_default-k
 unfolding run for_loop classic_for
-for_loop-returns-in_default-k t c = rw (← (rw c.enter_loop-s.ensures at c.check.ensures), c.in_default.is, ← (rw c.enter_loop-s.ensures at c.matches.ensures)) (rw (c.in_default-matches.is, ← (rw c.enter_loop-s.ensures at c.matches-2.ensures), c.in-At-matches-2.is) (rw (← (rw c.enter_loop-s.ensures at ((rw c.looked-s.ensures at ((rw c.looked-s-2.ensures at c.at_token-in-At-matches-2.ensures))))), ← c.let_stmt-g.ensures, c.in_default-k.is)))
+for_loop-returns-in_default-k t c = rw (← (rw c.enter_loop-s.ensures at c.check.ensures), c.in_default.is, ← (rw c.enter_loop-s.ensures at c.matches.ensures)) (rw (c.in_default-matches.is, ← (rw c.enter_loop-s.ensures at c.matches-2.ensures), c.in-Some-matches-2.is) (rw (← (rw c.enter_loop-s.ensures at ((rw c.looked-s.ensures at ((rw c.looked-s-2.ensures at c.at_token-in-Some-matches-2.ensures))))), ← c.let_stmt-g.ensures, c.in_default-k.is)))
 
 pub for_loop-returns-in_default-k-2 : goal.for_loop-returns-in_default-k-2
 unfolding run for_loop classic_for
-for_loop-returns-in_default-k-2 t c = rw (← (rw c.enter_loop-s.ensures at c.check.ensures), c.in_default.is, ← (rw c.enter_loop-s.ensures at c.matches.ensures)) (rw (c.in_default-matches.is, ← (rw c.enter_loop-s.ensures at c.matches-2.ensures), c.in-At-matches-2.is) (rw (← (rw c.enter_loop-s.ensures at ((rw c.looked-s.ensures at ((rw c.looked-s-2.ensures at c.at_token-in-At-matches-2.ensures))))), ← c.let_stmt-g.ensures, c.in-Node.is) (rw (← c.consume-h.ensures c.let_stmt-g.new.nodes, c.in_default-k-2.is))))
+for_loop-returns-in_default-k-2 t c = rw (← (rw c.enter_loop-s.ensures at c.check.ensures), c.in_default.is, ← (rw c.enter_loop-s.ensures at c.matches.ensures)) (rw (c.in_default-matches.is, ← (rw c.enter_loop-s.ensures at c.matches-2.ensures), c.in-Some-matches-2.is) (rw (← (rw c.enter_loop-s.ensures at ((rw c.looked-s.ensures at ((rw c.looked-s-2.ensures at c.at_token-in-Some-matches-2.ensures))))), ← c.let_stmt-g.ensures, c.in-Node.is) (rw (← c.consume-h.ensures c.let_stmt-g.new.nodes, c.in_default-k-2.is))))
 
-pub for_loop-returns-in-At-matches-2 : goal.for_loop-returns-in-At-matches-2
+pub for_loop-returns-in-Some-matches-2 : goal.for_loop-returns-in-Some-matches-2
 unfolding run for_loop classic_for
-for_loop-returns-in-At-matches-2 t c = rw (← (rw c.enter_loop-s.ensures at c.check.ensures), c.in_default.is, ← (rw c.enter_loop-s.ensures at c.matches.ensures)) (rw (c.in_default-matches.is, ← (rw c.enter_loop-s.ensures at c.matches-2.ensures), c.in-At-matches-2.is) (rw (← (rw c.enter_loop-s.ensures at ((rw c.looked-s.ensures at ((rw c.looked-s-2.ensures at c.at_token-in-At-matches-2.ensures))))), ← c.let_stmt-g.ensures, c.in-Node.is) (rw (← c.consume-h.ensures c.let_stmt-g.new.nodes, c.in-Node-k.is, ← c.for_c-in-At-matches-2.ensures))))
+for_loop-returns-in-Some-matches-2 t c = rw (← (rw c.enter_loop-s.ensures at c.check.ensures), c.in_default.is, ← (rw c.enter_loop-s.ensures at c.matches.ensures)) (rw (c.in_default-matches.is, ← (rw c.enter_loop-s.ensures at c.matches-2.ensures), c.in-Some-matches-2.is) (rw (← (rw c.enter_loop-s.ensures at ((rw c.looked-s.ensures at ((rw c.looked-s-2.ensures at c.at_token-in-Some-matches-2.ensures))))), ← c.let_stmt-g.ensures, c.in-Node.is) (rw (← c.consume-h.ensures c.let_stmt-g.new.nodes, c.in-Node-k.is, ← c.for_c-in-Some-matches-2.ensures))))
 
 pub for_loop-returns-in_default-k-3 : goal.for_loop-returns-in_default-k-3
 unfolding run for_loop classic_for
@@ -566,13 +566,13 @@ pub func-returns-in_default-k : goal.func-returns-in_default-k
 unfolding run function_body expression_stmt
 func-returns-in_default-k t c = rw (← c.parameters-g.ensures (lower (indexed c.args.tokens.now c.args.index.now) c.args.levels), c.in-Node.is, ← c.consume-h.ensures c.parameters-g.new.nodes) (rw c.in_default-k.is)
 
-pub func-returns-in-At : goal.func-returns-in-At
+pub func-returns-in-Some : goal.func-returns-in-Some
 unfolding run function_body expression_stmt
-func-returns-in-At t c = rw (← c.parameters-g.ensures (lower (indexed c.args.tokens.now c.args.index.now) c.args.levels), c.in-Node.is, ← c.consume-h.ensures c.parameters-g.new.nodes) (rw (c.in-Node-k.is, ← c.matches.ensures, c.in-At.is) (rw (← (rw c.at_token.ensures at c.block-b.ensures), ← c.fn_node.ensures c.block-b.new.errors)))
+func-returns-in-Some t c = rw (← c.parameters-g.ensures (lower (indexed c.args.tokens.now c.args.index.now) c.args.levels), c.in-Node.is, ← c.consume-h.ensures c.parameters-g.new.nodes) (rw (c.in-Node-k.is, ← c.matches.ensures, c.in-Some.is) (rw (← (rw c.at_token.ensures at c.block-b.ensures), ← c.fn_node.ensures c.block-b.new.errors)))
 
-pub func-returns-in-Nothing : goal.func-returns-in-Nothing
+pub func-returns-in-None : goal.func-returns-in-None
 unfolding run function_body expression_stmt
-func-returns-in-Nothing t c = rw (← c.parameters-g.ensures (lower (indexed c.args.tokens.now c.args.index.now) c.args.levels), c.in-Node.is, ← c.consume-h.ensures c.parameters-g.new.nodes) (rw (c.in-Node-k.is, ← c.matches.ensures, c.in-Nothing.is) (rw (← c.looked.ensures, ← c.assignment-g.ensures, ← c.expression_stmt-b.ensures c.assignment-g.new.errors) (rw (← c.fn_node-in-Nothing.ensures c.assignment-g.new.errors))))
+func-returns-in-None t c = rw (← c.parameters-g.ensures (lower (indexed c.args.tokens.now c.args.index.now) c.args.levels), c.in-Node.is, ← c.consume-h.ensures c.parameters-g.new.nodes) (rw (c.in-Node-k.is, ← c.matches.ensures, c.in-None.is) (rw (← c.looked.ensures, ← c.assignment-g.ensures, ← c.expression_stmt-b.ensures c.assignment-g.new.errors) (rw (← c.fn_node-in-None.ensures c.assignment-g.new.errors))))
 
 -- ---- if_stmt
 pub if_stmt-returns-in_default : goal.if_stmt-returns-in_default
@@ -597,13 +597,13 @@ if_stmt-returns-in_default-matches t c = rw (← c.assignment-g.ensures, c.in-No
 
 pub if_stmt-returns-in_default-k-4 : goal.if_stmt-returns-in_default-k-4
 unfolding run if_stmt block
-if_stmt-returns-in_default-k-4 t c = rw (← c.assignment-g.ensures, c.in-Node.is, ← c.consume-g.ensures c.assignment-g.new.nodes) (rw (c.in-Node-k.is, ← c.block-g.ensures, c.in-Node-k-2.is) (rw (← c.elifs-g.ensures, c.in-Node-k-3.is, ← c.matches.ensures) (rw (c.in-At.is, ← c.at_token.ensures, ← c.consume-g-2.ensures c.elifs-g.new.nodes) (rw c.in_default-k-4.is))))
+if_stmt-returns-in_default-k-4 t c = rw (← c.assignment-g.ensures, c.in-Node.is, ← c.consume-g.ensures c.assignment-g.new.nodes) (rw (c.in-Node-k.is, ← c.block-g.ensures, c.in-Node-k-2.is) (rw (← c.elifs-g.ensures, c.in-Node-k-3.is, ← c.matches.ensures) (rw (c.in-Some.is, ← c.at_token.ensures, ← c.consume-g-2.ensures c.elifs-g.new.nodes) (rw c.in_default-k-4.is))))
 
 pub if_stmt-returns : goal.if_stmt-returns
 unfolding run if_stmt block
 if_stmt-returns t c =
     let h = else_block (indexed c.args.tokens.now c.args.index.now) (lower (indexed c.args.tokens.now c.args.index.now) c.args.levels) (λ o q E N. push_node (if_row c.args.keyword c.in-Node.cond.node c.in-Node-k-2.stmts.node c.in-Node-k-3.e.node (o.node)) q E N) (fuel (indexed c.args.tokens.now c.args.index.now)) 0 0 c.consume-g-2.result.p c.consume-g-2.new.errors c.elifs-g.new.nodes in
-    rw (← c.assignment-g.ensures, c.in-Node.is, ← c.consume-g.ensures c.assignment-g.new.nodes) (rw (c.in-Node-k.is, ← c.block-g.ensures, c.in-Node-k-2.is) (rw (← c.elifs-g.ensures, c.in-Node-k-3.is, ← c.matches.ensures) (rw (c.in-At.is, ← c.at_token.ensures, ← c.consume-g-2.ensures c.elifs-g.new.nodes) (rw (c.in-Node-k-4.is, h, ← c.block-o.ensures) (rw (← c.if_node.ensures c.block-o.new.errors))))))
+    rw (← c.assignment-g.ensures, c.in-Node.is, ← c.consume-g.ensures c.assignment-g.new.nodes) (rw (c.in-Node-k.is, ← c.block-g.ensures, c.in-Node-k-2.is) (rw (← c.elifs-g.ensures, c.in-Node-k-3.is, ← c.matches.ensures) (rw (c.in-Some.is, ← c.at_token.ensures, ← c.consume-g-2.ensures c.elifs-g.new.nodes) (rw (c.in-Node-k-4.is, h, ← c.block-o.ensures) (rw (← c.if_node.ensures c.block-o.new.errors))))))
 
 -- ---- let_stmt
 pub let_stmt-returns-in_default : goal.let_stmt-returns-in_default
@@ -616,19 +616,19 @@ let_stmt-returns-in_default-matches t c = rw (← c.require-g.ensures c.args.nod
 
 pub let_stmt-returns-in_default-k : goal.let_stmt-returns-in_default-k
 unfolding run let_stmt
-let_stmt-returns-in_default-k t c = rw (← c.require-g.ensures c.args.nodes.now, c.in-Node.is, ← c.matches.ensures) (rw (c.in-At.is, ← c.at_token.ensures, ← c.assignment-h.ensures) (rw c.in_default-k.is))
+let_stmt-returns-in_default-k t c = rw (← c.require-g.ensures c.args.nodes.now, c.in-Node.is, ← c.matches.ensures) (rw (c.in-Some.is, ← c.at_token.ensures, ← c.assignment-h.ensures) (rw c.in_default-k.is))
 
 pub let_stmt-returns : goal.let_stmt-returns
 unfolding run let_stmt
-let_stmt-returns t c = rw (← c.require-g.ensures c.args.nodes.now, c.in-Node.is, ← c.matches.ensures) (rw (c.in-At.is, ← c.at_token.ensures, ← c.assignment-h.ensures) (rw (c.in-Node-k.is, ← c.row-2.ensures, ← c.make-2.ensures c.assignment-h.new.errors)))
+let_stmt-returns t c = rw (← c.require-g.ensures c.args.nodes.now, c.in-Node.is, ← c.matches.ensures) (rw (c.in-Some.is, ← c.at_token.ensures, ← c.assignment-h.ensures) (rw (c.in-Node-k.is, ← c.row-2.ensures, ← c.make-2.ensures c.assignment-h.new.errors)))
 
 -- ---- methods
 pub methods-loop-i-init : goal.methods-loop-i-init
 methods-loop-i-init t c = record { fuel = count c.args.tokens.now; enough = omega arith; same = refl; errors = refl; nodes = refl }
 
-pub methods-returns-in-At : goal.methods-returns-in-At
+pub methods-returns-in-Some : goal.methods-returns-in-Some
 unfolding run methods_from
-methods-returns-in-At t c = rw (← c.loop-i.invariant.same, ← c.check.ensures, c.in-At.is) (rw (← c.at_token.ensures, ← c.end_class.ensures (lower (indexed c.args.tokens.now c.args.index.now) c.args.levels)))
+methods-returns-in-Some t c = rw (← c.loop-i.invariant.same, ← c.check.ensures, c.in-Some.is) (rw (← c.at_token.ensures, ← c.end_class.ensures (lower (indexed c.args.tokens.now c.args.index.now) c.args.levels)))
 
 pub methods-returns-then-is_at_end : goal.methods-returns-then-is_at_end
 unfolding run methods_from
@@ -636,24 +636,24 @@ methods-returns-then-is_at_end t c = rw (← c.loop-i.invariant.same, ← c.chec
 
 pub methods-returns-in_default-k : goal.methods-returns-in_default-k
 unfolding run methods_from
-methods-returns-in_default-k t c = rw (← c.loop-i.invariant.same, ← c.check.ensures, c.in_default.is) (rw (← c.is_at_end.ensures, c.if-is_at_end.false, ← c.matches.ensures) (rw (c.in-At-matches.is, ← (rw c.looked-u.ensures at c.at_token-in-At-matches.ensures), ← c.fn_stmt-g.ensures) (rw c.in_default-k.is)))
+methods-returns-in_default-k t c = rw (← c.loop-i.invariant.same, ← c.check.ensures, c.in_default.is) (rw (← c.is_at_end.ensures, c.if-is_at_end.false, ← c.matches.ensures) (rw (c.in-Some-matches.is, ← (rw c.looked-u.ensures at c.at_token-in-Some-matches.ensures), ← c.fn_stmt-g.ensures) (rw c.in_default-k.is)))
 
 methods_turn : (t : ℕ) (c : goal.methods-After-s-1 t) → (c.loop-i.s.current < c.fn_stmt-g.result.p.current) × (c.loop-i.s.current < count c.args.tokens.now)
 methods_turn t c =
-    let g = found_past _ _ _ _ _ c.matches.ensures c.in-At-matches.is refl in
-    let a = ap (λ (x : State). x.current) c.at_token-in-At-matches.ensures in
+    let g = found_past _ _ _ _ _ c.matches.ensures c.in-Some-matches.is refl in
+    let a = ap (λ (x : State). x.current) c.at_token-in-Some-matches.ensures in
     let b = not_back (indexed c.args.tokens.now c.args.index.now) c.args.levels (fn_stmt (indexed c.args.tokens.now c.args.index.now)) _ _ _ _ _ _ _ c.fn_stmt-g.ensures in
     (omega arith, g.1)
 
-pub methods-loop-i-smaller-in-At-matches : goal.methods-loop-i-smaller-in-At-matches
-methods-loop-i-smaller-in-At-matches t c = let g = methods_turn t c in omega arith
+pub methods-loop-i-smaller-in-Some-matches : goal.methods-loop-i-smaller-in-Some-matches
+methods-loop-i-smaller-in-Some-matches t c = let g = methods_turn t c in omega arith
 
 methods_again : (t : ℕ) (c : goal.methods-After-s-1 t) → run (indexed c.args.tokens.now c.args.index.now) (lower (indexed c.args.tokens.now c.args.index.now) c.args.levels) (methods_from (indexed c.args.tokens.now c.args.index.now) c.loop-i.invariant.fuel (end_class c.args.name c.args.sup) c.loop-i.first c.loop-i.last c.first_of-first_static.result c.in-Node.n.node) c.fn_stmt-g.result.p c.fn_stmt-g.new.errors c.link.new.nodes ≡ run (indexed c.args.tokens.now c.args.index.now) (lower (indexed c.args.tokens.now c.args.index.now) c.args.levels) (methods_from (indexed c.args.tokens.now c.args.index.now) (suc c.loop-i.invariant.fuel) (end_class c.args.name c.args.sup) c.loop-i.first c.loop-i.last c.loop-i.first_static c.loop-i.last_static) c.loop-i.s c.loop-i.errors c.loop-i.nodes
 unfolding run methods_from
-methods_again t c = rw (← c.check.ensures, c.in_default.is, ← c.is_at_end.ensures) (rw (c.if-is_at_end.false, ← c.matches.ensures, c.in-At-matches.is) (rw (← (rw c.looked-u.ensures at c.at_token-in-At-matches.ensures), ← c.fn_stmt-g.ensures, c.in-Node.is) (rw (← c.link.ensures, ← c.first_of-first_static.ensures))))
+methods_again t c = rw (← c.check.ensures, c.in_default.is, ← c.is_at_end.ensures) (rw (c.if-is_at_end.false, ← c.matches.ensures, c.in-Some-matches.is) (rw (← (rw c.looked-u.ensures at c.at_token-in-Some-matches.ensures), ← c.fn_stmt-g.ensures, c.in-Node.is) (rw (← c.link.ensures, ← c.first_of-first_static.ensures))))
 
-pub methods-loop-i-preserved-in-At-matches : goal.methods-loop-i-preserved-in-At-matches
-methods-loop-i-preserved-in-At-matches t c =
+pub methods-loop-i-preserved-in-Some-matches : goal.methods-loop-i-preserved-in-Some-matches
+methods-loop-i-preserved-in-Some-matches t c =
     let g = methods_turn t c in
     let f : suc (c.loop-i.invariant.fuel - 1) ≡ c.loop-i.invariant.fuel = omega (arith, c.loop-i.invariant.enough) in
     record { fuel = c.loop-i.invariant.fuel - 1; enough = omega (arith, c.loop-i.invariant.enough); same = rw f (methods_again t c ∙ c.loop-i.invariant.same); errors = c.fn_stmt-g.auto.errors ∙ c.loop-i.invariant.errors; nodes = c.link.auto.nodes ∙ c.fn_stmt-g.auto.nodes ∙ c.loop-i.invariant.nodes }
@@ -683,9 +683,9 @@ methods-loop-i-preserved t c =
 pub pairs-loop-i-init : goal.pairs-loop-i-init
 pairs-loop-i-init t c = record { fuel = count c.args.tokens.now; enough = omega arith; same = refl; errors = refl; nodes = refl }
 
-pub pairs-returns-in-At : goal.pairs-returns-in-At
+pub pairs-returns-in-Some : goal.pairs-returns-in-Some
 unfolding run dict_elements_from
-pairs-returns-in-At t c = rw (← c.loop-i.invariant.same, ← c.check.ensures, c.in-At.is) (rw (← c.at_token.ensures, c.gives.ensures))
+pairs-returns-in-Some t c = rw (← c.loop-i.invariant.same, ← c.check.ensures, c.in-Some.is) (rw (← c.at_token.ensures, c.gives.ensures))
 
 pub pairs-returns-in_default-k : goal.pairs-returns-in_default-k
 unfolding run dict_elements_from
@@ -708,7 +708,7 @@ pairs_turn t c =
     let a = reading_past (indexed c.args.tokens.now c.args.index.now) c.args.levels Assignment _ _ _ _ _ _ _ _ c.assignment-g.ensures c.in-Node.is in
     let b = consume_on _ _ _ _ _ _ _ [] _ [] (c.consume-h.ensures []) in
     let d = reading_past (indexed c.args.tokens.now c.args.index.now) c.args.levels Assignment _ _ _ _ _ _ _ _ c.assignment-g-in-loop-i.ensures c.in-Node-k-2.is in
-    let g = found_past _ _ _ _ _ c.matches.ensures c.in-At-matches.is refl in
+    let g = found_past _ _ _ _ _ c.matches.ensures c.in-Some-matches.is refl in
     let e = ap (λ (x : State). x.current) c.at_token-s.ensures in
     let f = ap (λ (x : State). x.current) c.looked.ensures in
     (omega arith, omega (arith, a.0, f))
@@ -718,7 +718,7 @@ pairs-loop-i-smaller t c = let g = pairs_turn t c in omega arith
 
 pairs_again : (t : ℕ) (c : goal.pairs-After-at_token-s t) → run (indexed c.args.tokens.now c.args.index.now) (lower (indexed c.args.tokens.now c.args.index.now) c.args.levels) (dict_elements_from (indexed c.args.tokens.now c.args.index.now) c.loop-i.invariant.fuel c.first_of-first.result c.in-Node-k-2.value.node) c.at_token-s.result c.assignment-g-in-loop-i.new.errors c.link-in-loop-i.new.nodes ≡ run (indexed c.args.tokens.now c.args.index.now) (lower (indexed c.args.tokens.now c.args.index.now) c.args.levels) (dict_elements_from (indexed c.args.tokens.now c.args.index.now) (suc c.loop-i.invariant.fuel) c.loop-i.first c.loop-i.last) c.loop-i.s c.loop-i.errors c.loop-i.nodes
 unfolding run dict_elements_from
-pairs_again t c = rw (← c.check.ensures, c.in_default.is, ← c.looked.ensures) (rw (← c.assignment-g.ensures, c.in-Node.is, ← c.consume-h.ensures c.assignment-g.new.nodes) (rw (c.in-Node-k.is, ← c.assignment-g-in-loop-i.ensures, c.in-Node-k-2.is) (rw (← c.link.ensures, ← c.link-in-loop-i.ensures, ← c.first_of-first.ensures) (rw (← c.matches.ensures, c.in-At-matches.is, ← c.at_token-s.ensures)))))
+pairs_again t c = rw (← c.check.ensures, c.in_default.is, ← c.looked.ensures) (rw (← c.assignment-g.ensures, c.in-Node.is, ← c.consume-h.ensures c.assignment-g.new.nodes) (rw (c.in-Node-k.is, ← c.assignment-g-in-loop-i.ensures, c.in-Node-k-2.is) (rw (← c.link.ensures, ← c.link-in-loop-i.ensures, ← c.first_of-first.ensures) (rw (← c.matches.ensures, c.in-Some-matches.is, ← c.at_token-s.ensures)))))
 
 pub pairs-loop-i-preserved : goal.pairs-loop-i-preserved
 pairs-loop-i-preserved t c =
@@ -790,12 +790,12 @@ primary-returns-then-kind-eq-SUPER t c =
     let h = primary_super (indexed c.args.tokens.now c.args.index.now) (lower (indexed c.args.tokens.now c.args.index.now) c.args.levels) c.args.p c.args.errors.now c.args.nodes.now _ _ n c.if-kind-eq-SUPER.true in
     rw (h) (rw c.at_token-then-kind-eq-SUPER.ensures at (c.super_expr.ensures (lower (indexed c.args.tokens.now c.args.index.now) c.args.levels)))
 
-pub primary-returns-in-At : goal.primary-returns-in-At
+pub primary-returns-in-Some : goal.primary-returns-in-Some
 unfolding run
-primary-returns-in-At t c =
+primary-returns-in-Some t c =
     let n = peeked (indexed c.args.tokens.now c.args.index.now) c.args.p.current _ c.peek-coming.ensures in
     let h = primary_else (indexed c.args.tokens.now c.args.index.now) (lower (indexed c.args.tokens.now c.args.index.now) c.args.levels) c.args.p c.args.errors.now c.args.nodes.now _ _ n _ c.literal_place-n.ensures c.if-n-ne0.false c.if-kind-eq-IDENTIFIER.false c.if-kind-eq-LEFT_PAREN.false c.if-kind-eq-LEFT_BRACE.false c.if-kind-eq-LEFT_CURLY_BRACE.false c.if-kind-eq-FN.false c.if-kind-eq-THIS.false c.if-kind-eq-SUPER.false in
-    rw (h, ← c.matches.ensures, c.in-At.is) (rw (← (rw c.looked-s.ensures at c.at_token-in-At.ensures), ← c.empty.ensures c.args.errors.now))
+    rw (h, ← c.matches.ensures, c.in-Some.is) (rw (← (rw c.looked-s.ensures at c.at_token-in-Some.ensures), ← c.empty.ensures c.args.errors.now))
 
 pub primary-returns : goal.primary-returns
 unfolding run
@@ -805,9 +805,9 @@ primary-returns t c =
     rw (h, ← c.matches.ensures, c.in_default-matches.is) (rw (← (rw c.looked-s.ensures at c.looked.ensures), ← c.fatal.ensures c.args.nodes.now))
 
 -- ---- ret
-pub ret-returns-in-At : goal.ret-returns-in-At
+pub ret-returns-in-Some : goal.ret-returns-in-Some
 unfolding run ret
-ret-returns-in-At t c = rw (← c.check.ensures, c.in-At.is, ← c.at_token.ensures) (rw (← c.row.ensures, ← c.make.ensures c.args.errors.now))
+ret-returns-in-Some t c = rw (← c.check.ensures, c.in-Some.is, ← c.at_token.ensures) (rw (← c.row.ensures, ← c.make.ensures c.args.errors.now))
 
 pub ret-returns-in_default-k : goal.ret-returns-in_default-k
 unfolding run ret
@@ -818,13 +818,13 @@ unfolding run ret
 ret-returns t c = rw (← c.check.ensures, c.in_default.is, ← c.looked.ensures) (rw (← c.assignment-g.ensures, c.in-Node.is, ← c.row-2.ensures) (rw (← c.make-2.ensures c.assignment-g.new.errors)))
 
 -- ---- slice
-pub slice-returns-in-At : goal.slice-returns-in-At
+pub slice-returns-in-Some : goal.slice-returns-in-Some
 unfolding run
-slice-returns-in-At t c = rw (← c.matches.ensures, c.in-At.is, ← c.at_token.ensures) (rw (← c.assignment-g.ensures, ← c.step.ensures (lower (indexed c.args.tokens.now c.args.index.now) c.args.levels)))
+slice-returns-in-Some t c = rw (← c.matches.ensures, c.in-Some.is, ← c.at_token.ensures) (rw (← c.assignment-g.ensures, ← c.step.ensures (lower (indexed c.args.tokens.now c.args.index.now) c.args.levels)))
 
-pub slice-returns-in-At-check : goal.slice-returns-in-At-check
+pub slice-returns-in-Some-check : goal.slice-returns-in-Some-check
 unfolding run
-slice-returns-in-At-check t c = rw (← c.matches.ensures, c.in_default.is, ← c.check.ensures) (rw c.in-At-check.is (rw ((rw c.looked-u.ensures at c.at_token-in-At-check.ensures)) at (c.close_access.ensures (lower (indexed c.args.tokens.now c.args.index.now) c.args.levels))))
+slice-returns-in-Some-check t c = rw (← c.matches.ensures, c.in_default.is, ← c.check.ensures) (rw c.in-Some-check.is (rw ((rw c.looked-u.ensures at c.at_token-in-Some-check.ensures)) at (c.close_access.ensures (lower (indexed c.args.tokens.now c.args.index.now) c.args.levels))))
 
 pub slice-returns-then-is_at_end : goal.slice-returns-then-is_at_end
 unfolding run
@@ -838,17 +838,17 @@ pub slice-returns-in_default-matches : goal.slice-returns-in_default-matches
 unfolding run
 slice-returns-in_default-matches t c = rw (← c.matches.ensures, c.in_default.is, ← c.check.ensures) (rw (c.in_default-check.is, ← (rw c.looked-u.ensures at c.looked-v.ensures), ← c.is_at_end.ensures) (rw (c.if-is_at_end.false, ← c.assignment-g-2.ensures, c.in-Node.is) (rw (← c.matches-2.ensures, c.in_default-matches.is, ← c.looked.ensures) (rw (← c.close_access-in_default-matches.ensures (lower (indexed c.args.tokens.now c.args.index.now) c.args.levels))))))
 
-pub slice-returns-in-At-check-2 : goal.slice-returns-in-At-check-2
+pub slice-returns-in-Some-check-2 : goal.slice-returns-in-Some-check-2
 unfolding run
-slice-returns-in-At-check-2 t c = rw (← c.matches.ensures, c.in_default.is, ← c.check.ensures) (rw (c.in_default-check.is, ← (rw c.looked-u.ensures at c.looked-v.ensures), ← c.is_at_end.ensures) (rw (c.if-is_at_end.false, ← c.assignment-g-2.ensures, c.in-Node.is) (rw (← c.matches-2.ensures, c.in-At-matches.is, ← c.check-2.ensures) (rw c.in-At-check-2.is (rw ((rw c.at_token-s.ensures at c.at_token-in-At-check-2.ensures)) at (c.close_access-in-At-check-2.ensures (lower (indexed c.args.tokens.now c.args.index.now) c.args.levels)))))))
+slice-returns-in-Some-check-2 t c = rw (← c.matches.ensures, c.in_default.is, ← c.check.ensures) (rw (c.in_default-check.is, ← (rw c.looked-u.ensures at c.looked-v.ensures), ← c.is_at_end.ensures) (rw (c.if-is_at_end.false, ← c.assignment-g-2.ensures, c.in-Node.is) (rw (← c.matches-2.ensures, c.in-Some-matches.is, ← c.check-2.ensures) (rw c.in-Some-check-2.is (rw ((rw c.at_token-s.ensures at c.at_token-in-Some-check-2.ensures)) at (c.close_access-in-Some-check-2.ensures (lower (indexed c.args.tokens.now c.args.index.now) c.args.levels)))))))
 
 pub slice-returns-then-is_at_end-2 : goal.slice-returns-then-is_at_end-2
 unfolding run
-slice-returns-then-is_at_end-2 t c = rw (← c.matches.ensures, c.in_default.is, ← c.check.ensures) (rw (c.in_default-check.is, ← (rw c.looked-u.ensures at c.looked-v.ensures), ← c.is_at_end.ensures) (rw (c.if-is_at_end.false, ← c.assignment-g-2.ensures, c.in-Node.is) (rw (← c.matches-2.ensures, c.in-At-matches.is, ← c.check-2.ensures) (rw (c.in_default-check-2.is, ← (rw c.at_token-s.ensures at c.looked-w.ensures), ← (rw c.at_token-s.ensures at c.is_at_end-2.ensures)) (rw (c.if-is_at_end-2.true, ← c.close_access-then-is_at_end-2.ensures (lower (indexed c.args.tokens.now c.args.index.now) c.args.levels)))))))
+slice-returns-then-is_at_end-2 t c = rw (← c.matches.ensures, c.in_default.is, ← c.check.ensures) (rw (c.in_default-check.is, ← (rw c.looked-u.ensures at c.looked-v.ensures), ← c.is_at_end.ensures) (rw (c.if-is_at_end.false, ← c.assignment-g-2.ensures, c.in-Node.is) (rw (← c.matches-2.ensures, c.in-Some-matches.is, ← c.check-2.ensures) (rw (c.in_default-check-2.is, ← (rw c.at_token-s.ensures at c.looked-w.ensures), ← (rw c.at_token-s.ensures at c.is_at_end-2.ensures)) (rw (c.if-is_at_end-2.true, ← c.close_access-then-is_at_end-2.ensures (lower (indexed c.args.tokens.now c.args.index.now) c.args.levels)))))))
 
 pub slice-returns : goal.slice-returns
 unfolding run
-slice-returns t c = rw (← c.matches.ensures, c.in_default.is, ← c.check.ensures) (rw (c.in_default-check.is, ← (rw c.looked-u.ensures at c.looked-v.ensures), ← c.is_at_end.ensures) (rw (c.if-is_at_end.false, ← c.assignment-g-2.ensures, c.in-Node.is) (rw (← c.matches-2.ensures, c.in-At-matches.is, ← c.check-2.ensures) (rw (c.in_default-check-2.is, ← (rw c.at_token-s.ensures at c.looked-w.ensures), ← (rw c.at_token-s.ensures at c.is_at_end-2.ensures)) (rw (c.if-is_at_end-2.false, ← c.assignment-g-3.ensures, ← c.step-2.ensures (lower (indexed c.args.tokens.now c.args.index.now) c.args.levels)))))))
+slice-returns t c = rw (← c.matches.ensures, c.in_default.is, ← c.check.ensures) (rw (c.in_default-check.is, ← (rw c.looked-u.ensures at c.looked-v.ensures), ← c.is_at_end.ensures) (rw (c.if-is_at_end.false, ← c.assignment-g-2.ensures, c.in-Node.is) (rw (← c.matches-2.ensures, c.in-Some-matches.is, ← c.check-2.ensures) (rw (c.in_default-check-2.is, ← (rw c.at_token-s.ensures at c.looked-w.ensures), ← (rw c.at_token-s.ensures at c.is_at_end-2.ensures)) (rw (c.if-is_at_end-2.false, ← c.assignment-g-3.ensures, ← c.step-2.ensures (lower (indexed c.args.tokens.now c.args.index.now) c.args.levels)))))))
 
 -- ---- stmt
 pub stmt-returns-then-kind-eq-FOR : goal.stmt-returns-then-kind-eq-FOR
@@ -974,17 +974,17 @@ unary-returns t c =
     rw (h, ← c.looked.ensures, ← c.call.ensures)
 
 -- ---- upto
-pub upto-returns-in-At : goal.upto-returns-in-At
+pub upto-returns-in-Some : goal.upto-returns-in-Some
 unfolding run
-upto-returns-in-At t c = rw (← c.matches.ensures, c.in-At.is, ← c.at_token.ensures) (rw (← c.assignment-g.ensures, ← c.step.ensures (lower (indexed c.args.tokens.now c.args.index.now) c.args.levels)))
+upto-returns-in-Some t c = rw (← c.matches.ensures, c.in-Some.is, ← c.at_token.ensures) (rw (← c.assignment-g.ensures, ← c.step.ensures (lower (indexed c.args.tokens.now c.args.index.now) c.args.levels)))
 
 pub upto-returns-in_default-k : goal.upto-returns-in_default-k
 unfolding run
 upto-returns-in_default-k t c = rw (← c.matches.ensures, c.in_default.is, ← c.looked.ensures) (rw (← c.assignment-g-2.ensures, c.in_default-k.is))
 
-pub upto-returns-in-At-matches : goal.upto-returns-in-At-matches
+pub upto-returns-in-Some-matches : goal.upto-returns-in-Some-matches
 unfolding run
-upto-returns-in-At-matches t c = rw (← c.matches.ensures, c.in_default.is, ← c.looked.ensures) (rw (← c.assignment-g-2.ensures, c.in-Node.is, ← c.matches-2.ensures) (rw (c.in-At-matches.is, ← c.at_token-in-At-matches.ensures, ← c.assignment-g-in-At-matches.ensures) (rw (← c.step-in-At-matches.ensures (lower (indexed c.args.tokens.now c.args.index.now) c.args.levels)))))
+upto-returns-in-Some-matches t c = rw (← c.matches.ensures, c.in_default.is, ← c.looked.ensures) (rw (← c.assignment-g-2.ensures, c.in-Node.is, ← c.matches-2.ensures) (rw (c.in-Some-matches.is, ← c.at_token-in-Some-matches.ensures, ← c.assignment-g-in-Some-matches.ensures) (rw (← c.step-in-Some-matches.ensures (lower (indexed c.args.tokens.now c.args.index.now) c.args.levels)))))
 
 pub upto-returns : goal.upto-returns
 unfolding run

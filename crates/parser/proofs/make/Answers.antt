@@ -10,4 +10,4 @@ returns-then-push_node c = λ E.
 pub returns : goal.returns
 returns c = λ E.
     let a = c.args in
-    node_refused a.d a.p E a.nodes.now _ _ c.stopped.result c.push_node.ensures c.if-push_node.false c.stopped.ensures
+    node_refused a.d a.p E a.nodes.now _ _ c.stops.result c.push_node.ensures c.if-push_node.false c.stops.ensures

@@ -15,14 +15,14 @@ returns-in_default c = λ low E. rw (← c.loop-i.invariant.same low E, ← c.ma
 
 pub returns-in_default-k : goal.returns-in_default-k
 unfolding run names_from
-returns-in_default-k c = λ low E. rw (← c.loop-i.invariant.same low E, ← c.matches.ensures, c.in-At.is) (rw (← c.at_token.ensures, ← c.row.ensures, ← c.make-g.ensures E, c.in_default-k.is))
+returns-in_default-k c = λ low E. rw (← c.loop-i.invariant.same low E, ← c.matches.ensures, c.in-Some.is) (rw (← c.at_token.ensures, ← c.row.ensures, ← c.make-g.ensures E, c.in_default-k.is))
 
-pub loop-i-smaller-in-At-matches : goal.loop-i-smaller-in-At-matches
-loop-i-smaller-in-At-matches c =
-    let g = found_past _ _ _ _ _ c.matches.ensures c.in-At.is refl in
+pub loop-i-smaller-in-Some-matches : goal.loop-i-smaller-in-Some-matches
+loop-i-smaller-in-Some-matches c =
+    let g = found_past _ _ _ _ _ c.matches.ensures c.in-Some.is refl in
     let a = ap (λ (x : State). x.current) c.at_token.ensures in
     let u = make_on _ _ _ _ [] _ [] _ (c.make-g.ensures []) in
-    let h = found_past _ _ _ _ _ c.matches-in-loop-i.ensures c.in-At-matches.is refl in
+    let h = found_past _ _ _ _ _ c.matches-in-loop-i.ensures c.in-Some-matches.is refl in
     let b = ap (λ (x : State). x.current) c.at_token-s.ensures in
     omega arith
 
@@ -31,14 +31,14 @@ again : (c : goal.After-at_token-s) (low : Which → Reader) (E : List ℕ)
     → run (indexed c.args.tokens.now c.args.index.now) low (names_from (indexed c.args.tokens.now c.args.index.now) c.loop-i.invariant.fuel c.first_of-first.result c.in-Node.n.node) c.at_token-s.result E c.link.new.nodes
     ≡ run (indexed c.args.tokens.now c.args.index.now) low (names_from (indexed c.args.tokens.now c.args.index.now) (suc c.loop-i.invariant.fuel) c.loop-i.first c.loop-i.last) c.loop-i.s E c.loop-i.nodes
 unfolding run names_from
-again c low E = rw (← c.matches.ensures, c.in-At.is) (rw (← c.at_token.ensures, ← c.row.ensures, ← c.make-g.ensures E, c.in-Node.is) (rw (← c.link.ensures, ← c.first_of-first.ensures, ← c.matches-in-loop-i.ensures, c.in-At-matches.is) (rw (← c.at_token-s.ensures))))
+again c low E = rw (← c.matches.ensures, c.in-Some.is) (rw (← c.at_token.ensures, ← c.row.ensures, ← c.make-g.ensures E, c.in-Node.is) (rw (← c.link.ensures, ← c.first_of-first.ensures, ← c.matches-in-loop-i.ensures, c.in-Some-matches.is) (rw (← c.at_token-s.ensures))))
 
-pub loop-i-preserved-in-At-matches : goal.loop-i-preserved-in-At-matches
-loop-i-preserved-in-At-matches c =
-    let g = found_past _ _ _ _ _ c.matches.ensures c.in-At.is refl in
+pub loop-i-preserved-in-Some-matches : goal.loop-i-preserved-in-Some-matches
+loop-i-preserved-in-Some-matches c =
+    let g = found_past _ _ _ _ _ c.matches.ensures c.in-Some.is refl in
     let a = ap (λ (x : State). x.current) c.at_token.ensures in
     let u = make_on _ _ _ _ [] _ [] _ (c.make-g.ensures []) in
-    let h = found_past _ _ _ _ _ c.matches-in-loop-i.ensures c.in-At-matches.is refl in
+    let h = found_past _ _ _ _ _ c.matches-in-loop-i.ensures c.in-Some-matches.is refl in
     let b = ap (λ (x : State). x.current) c.at_token-s.ensures in
     let f : suc (c.loop-i.invariant.fuel - 1) ≡ c.loop-i.invariant.fuel = omega (arith, c.loop-i.invariant.enough) in
     record {
@@ -50,7 +50,7 @@ loop-i-preserved-in-At-matches c =
 
 pub loop-i-smaller : goal.loop-i-smaller
 loop-i-smaller c =
-    let g = found_past _ _ _ _ _ c.matches.ensures c.in-At.is refl in
+    let g = found_past _ _ _ _ _ c.matches.ensures c.in-Some.is refl in
     let a = ap (λ (x : State). x.current) c.at_token.ensures in
     let u = make_on _ _ _ _ [] _ [] _ (c.make-g.ensures []) in
     let b = ap (λ (x : State). x.current) c.looked-s.ensures in
@@ -61,11 +61,11 @@ again_2 : (c : goal.After-looked-s) (low : Which → Reader) (E : List ℕ)
     → run (indexed c.args.tokens.now c.args.index.now) low (names_from (indexed c.args.tokens.now c.args.index.now) c.loop-i.invariant.fuel c.first_of-first.result c.in-Node.n.node) c.looked-s.result E c.link.new.nodes
     ≡ run (indexed c.args.tokens.now c.args.index.now) low (names_from (indexed c.args.tokens.now c.args.index.now) (suc c.loop-i.invariant.fuel) c.loop-i.first c.loop-i.last) c.loop-i.s E c.loop-i.nodes
 unfolding run names_from
-again_2 c low E = rw (← c.matches.ensures, c.in-At.is) (rw (← c.at_token.ensures, ← c.row.ensures, ← c.make-g.ensures E, c.in-Node.is) (rw (← c.link.ensures, ← c.first_of-first.ensures, ← c.matches-in-loop-i.ensures, c.in-Nothing.is) (rw (← c.looked-s.ensures))))
+again_2 c low E = rw (← c.matches.ensures, c.in-Some.is) (rw (← c.at_token.ensures, ← c.row.ensures, ← c.make-g.ensures E, c.in-Node.is) (rw (← c.link.ensures, ← c.first_of-first.ensures, ← c.matches-in-loop-i.ensures, c.in-None.is) (rw (← c.looked-s.ensures))))
 
 pub loop-i-preserved : goal.loop-i-preserved
 loop-i-preserved c =
-    let g = found_past _ _ _ _ _ c.matches.ensures c.in-At.is refl in
+    let g = found_past _ _ _ _ _ c.matches.ensures c.in-Some.is refl in
     let a = ap (λ (x : State). x.current) c.at_token.ensures in
     let u = make_on _ _ _ _ [] _ [] _ (c.make-g.ensures []) in
     let b = ap (λ (x : State). x.current) c.looked-s.ensures in

@@ -7,9 +7,9 @@ use Rattle.parser.specs.Grammar.{parameters, parameters_from}
 use Rattle.pieces.proofs.Turns.{found_past, require_past, make_on}
 use Rattle.pieces.proofs.parameters.Goals as goal
 
-pub returns-in-At : goal.returns-in-At
+pub returns-in-Some : goal.returns-in-Some
 unfolding run parameters
-returns-in-At c = λ low. rw (← c.check.ensures, c.in-At.is) (rw (← c.at_token.ensures, c.gives.ensures))
+returns-in-Some c = λ low. rw (← c.check.ensures, c.in-Some.is) (rw (← c.at_token.ensures, c.gives.ensures))
 
 pub loop-n-init : goal.loop-n-init
 loop-n-init c = record { fuel = count c.args.tokens.now; enough = omega arith; same = λ low. refl; errors = refl; nodes = refl }
@@ -42,7 +42,7 @@ pub loop-n-smaller : goal.loop-n-smaller
 loop-n-smaller c =
     let g = require_past _ _ _ _ _ _ _ _ [] _ [] (c.require-g.ensures []) c.in-Node.is refl in
     let u = make_on _ _ _ _ [] _ [] _ (c.make-h.ensures []) in
-    let h = found_past _ _ _ _ _ c.matches.ensures c.in-At-matches.is refl in
+    let h = found_past _ _ _ _ _ c.matches.ensures c.in-Some-matches.is refl in
     let a = ap (λ (x : State). x.current) c.at_token-s.ensures in
     omega arith
 
@@ -53,13 +53,13 @@ again : (c : goal.After-at_token-s) (low : Which → Reader)
 unfolding run parameters_from
 again c low =
     let l : nat_lt 255 c.loop-n.n ≡ false = le-ltb _ _ (omega arith) in
-    rw (l, ← c.require-g.ensures c.loop-n.nodes, c.in-Node.is) (rw (← c.row.ensures, ← c.make-h.ensures c.require-g.new.errors, c.in-Node-k.is) (rw (← c.link.ensures, ← c.first_of-first.ensures, ← c.matches.ensures, c.in-At-matches.is) (rw (← c.at_token-s.ensures))))
+    rw (l, ← c.require-g.ensures c.loop-n.nodes, c.in-Node.is) (rw (← c.row.ensures, ← c.make-h.ensures c.require-g.new.errors, c.in-Node-k.is) (rw (← c.link.ensures, ← c.first_of-first.ensures, ← c.matches.ensures, c.in-Some-matches.is) (rw (← c.at_token-s.ensures))))
 
 pub loop-n-preserved : goal.loop-n-preserved
 loop-n-preserved c =
     let g = require_past _ _ _ _ _ _ _ _ [] _ [] (c.require-g.ensures []) c.in-Node.is refl in
     let u = make_on _ _ _ _ [] _ [] _ (c.make-h.ensures []) in
-    let h = found_past _ _ _ _ _ c.matches.ensures c.in-At-matches.is refl in
+    let h = found_past _ _ _ _ _ c.matches.ensures c.in-Some-matches.is refl in
     let a = ap (λ (x : State). x.current) c.at_token-s.ensures in
     let f : suc (c.loop-n.invariant.fuel - 1) ≡ c.loop-n.invariant.fuel = omega (arith, c.loop-n.invariant.enough) in
     record {

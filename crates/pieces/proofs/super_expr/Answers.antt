@@ -2,9 +2,9 @@ use Rattle.parser.specs.Programs.{run}
 use Rattle.parser.specs.Grammar.{super_expr}
 use Rattle.pieces.proofs.super_expr.Goals as goal
 
-pub returns-in-At : goal.returns-in-At
+pub returns-in-Some : goal.returns-in-Some
 unfolding run super_expr
-returns-in-At c = λ low. rw (← c.check.ensures, c.in-At.is) (rw (← c.at_token.ensures, ← c.row.ensures, ← c.make.ensures c.args.errors.now))
+returns-in-Some c = λ low. rw (← c.check.ensures, c.in-Some.is) (rw (← c.at_token.ensures, ← c.row.ensures, ← c.make.ensures c.args.errors.now))
 
 pub returns-in_default-k : goal.returns-in_default-k
 unfolding run super_expr

@@ -7,8 +7,8 @@ returns-in_default c = λ low. rw (← c.matches.ensures, c.in_default.is) (rw (
 
 pub returns-in_default-k : goal.returns-in_default-k
 unfolding run
-returns-in_default-k c = λ low. rw (← c.matches.ensures, c.in-At.is) (rw (← c.at_token.ensures, ← c.consume-g.ensures c.args.nodes.now, c.in_default-k.is))
+returns-in_default-k c = λ low. rw (← c.matches.ensures, c.in-Some.is) (rw (← c.at_token.ensures, ← c.consume-g.ensures c.args.nodes.now, c.in_default-k.is))
 
 pub returns : goal.returns
 unfolding run
-returns c = λ low. rw (← c.matches.ensures, c.in-At.is) (rw (← c.at_token.ensures, ← c.consume-g.ensures c.args.nodes.now, c.in-Node.is) (rw (← c.row.ensures, ← c.make.ensures c.consume-g.new.errors)))
+returns c = λ low. rw (← c.matches.ensures, c.in-Some.is) (rw (← c.at_token.ensures, ← c.consume-g.ensures c.args.nodes.now, c.in-Node.is) (rw (← c.row.ensures, ← c.make.ensures c.consume-g.new.errors)))

@@ -2,7 +2,7 @@
 use Rattle.std.proofs.Common.{◌<◌, sym, ◌∙◌, arith}
 use Rattle.parser.specs.Tokens.{count}
 use Rattle.parser.proofs.Look.{after_in, after_out, kind_some}
-use Rattle.parser.proofs.next.Goals as goal
+use Rattle.parser.proofs.Tokens.next.Goals as goal
 
 pub returns-then-kind_at-eq-EOF : goal.returns-then-kind_at-eq-EOF
 returns-then-kind_at-eq-EOF c = after_out _ _ (sym c.kind_at.ensures ∙ c.if-kind_at-eq-EOF.true)
@@ -10,7 +10,7 @@ returns-then-kind_at-eq-EOF c = after_out _ _ (sym c.kind_at.ensures ∙ c.if-ki
 pub overflow_add-result : goal.overflow_add-result
 overflow_add-result c =
     let a = c.args in
-    let h : a.i < count a.tokens.now = kind_some a.tokens.now a.i (λ e. c.if-kind_at-eq-EOF.false (c.kind_at.ensures ∙ e)) in
+    let h : a.i < count a.self.now.table.now = kind_some a.self.now.table.now a.i (λ e. c.if-kind_at-eq-EOF.false (c.kind_at.ensures ∙ e)) in
     omega arith
 
 pub returns : goal.returns
