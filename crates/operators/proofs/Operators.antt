@@ -21,8 +21,7 @@ use Rattle.parser.specs.Programs.{Which, Reader, Prog, look, run}
 use Rattle.parser.specs.Grammar.{Level, levels, row_if, operation, fuel, unary, look_many, binary_from, binary}
 use Rattle.pieces.specs.Pieces.{among, place_in}
 use Rattle.operators.specs.declared.Tried.{Tried}
-use Rattle.operators.specs.declared.Turn.{Turn}
-use Rattle.operators.specs.declared.Turn.TheVariants.{Over, Takes}
+use Rattle.std.specs.Prelude.{Option, Some, None}
 use Rattle.operators.specs.Operators.{rank_in, binary_at, onward, behind_first, tests_of, behind_in, turn_of, turn_at}
 use Rattle.parser.proofs.Write.{looked_more, looked_none}
 use Rattle.progress.proofs.Moves.{never}
@@ -270,11 +269,11 @@ module _ (kind : ℕ) where
           ap (λ (a : Bool). a && ltb (behind_in 0 levels kind) (tests_of levels tightest)) (above n looser k) ∙ ap (λ (b : Bool). ltb looser (suc n) && b) (within n tightest k)
 
 -- a turn by what its test says
-turn_takes : (looser tightest rank behind past : ℕ) → ltb looser rank && leb rank tightest ≡ true → record { turn = Takes rank past; looks = tests_of levels tightest - behind } ≡ turn_of looser tightest rank behind past
+turn_takes : (looser tightest rank behind past : ℕ) → ltb looser rank && leb rank tightest ≡ true → record { turn = Some (rank, past); looks = tests_of levels tightest - behind } ≡ turn_of looser tightest rank behind past
 unfolding turn_of
 turn_takes looser tightest rank behind past t = rw (t, turn_of)
 
-turn_over : (looser tightest rank behind past : ℕ) → ltb looser rank && leb rank tightest ≡ false → record { turn = Over; looks = tests_of levels tightest - tests_of levels looser } ≡ turn_of looser tightest rank behind past
+turn_over : (looser tightest rank behind past : ℕ) → ltb looser rank && leb rank tightest ≡ false → record { turn = None; looks = tests_of levels tightest - tests_of levels looser } ≡ turn_of looser tightest rank behind past
 unfolding turn_of
 turn_over looser tightest rank behind past t = rw (t, turn_of)
 
@@ -287,16 +286,16 @@ module _ (T : View) (at looser tightest : ℕ) (c : Coming) (e : c ≡ peek_at T
   unfolding turn_at
   turn_by = ap (λ (c : Coming). turn_of looser tightest (rank_in 1 levels c.kind) (behind_in 0 levels c.kind) c.past) e
 
-  pub takes : (rank looks : ℕ) → rank ≡ rank_in 1 levels c.kind → looks ≡ all - behind → leb closed behind && ltb behind all ≡ true → ◌≡◌ {A = Tried} (record { turn = Takes rank c.past; looks = looks }) (turn_at T at looser tightest)
+  pub takes : (rank looks : ℕ) → rank ≡ rank_in 1 levels c.kind → looks ≡ all - behind → leb closed behind && ltb behind all ≡ true → ◌≡◌ {A = Tried} (record { turn = Some (rank, c.past); looks = looks }) (turn_at T at looser tightest)
   takes rank looks k n t =
-      ap (λ (r : ℕ). record { turn = Takes r c.past; looks = looks }) k
-      ∙ ap (λ (n : ℕ). record { turn = Takes (rank_in 1 levels c.kind) c.past; looks = n }) (n ∙ ap (λ (n : ℕ). n - behind) o ∙ ap (λ (n : ℕ). tests_of levels tightest - n) b)
+      ap (λ (r : ℕ). record { turn = Some (r, c.past); looks = looks }) k
+      ∙ ap (λ (n : ℕ). record { turn = Some (rank_in 1 levels c.kind, c.past); looks = n }) (n ∙ ap (λ (n : ℕ). n - behind) o ∙ ap (λ (n : ℕ). tests_of levels tightest - n) b)
       ∙ turn_takes looser tightest (rank_in 1 levels c.kind) (behind_in 0 levels c.kind) c.past (sym test ∙ t)
       ∙ turn_by
 
-  pub over : (looks : ℕ) → looks ≡ all - closed → leb closed behind && ltb behind all ≡ false → ◌≡◌ {A = Tried} (record { turn = Over; looks = looks }) (turn_at T at looser tightest)
+  pub over : (looks : ℕ) → looks ≡ all - closed → leb closed behind && ltb behind all ≡ false → ◌≡◌ {A = Tried} (record { turn = None; looks = looks }) (turn_at T at looser tightest)
   over looks n t =
-      ap (λ (n : ℕ). record { turn = Over; looks = n }) (n ∙ ap (λ (n : ℕ). n - closed) o ∙ ap (λ (n : ℕ). tests_of levels tightest - n) l)
+      ap (λ (n : ℕ). record { turn = None; looks = n }) (n ∙ ap (λ (n : ℕ). n - closed) o ∙ ap (λ (n : ℕ). tests_of levels tightest - n) l)
       ∙ turn_over looser tightest (rank_in 1 levels c.kind) (behind_in 0 levels c.kind) c.past (sym test ∙ t)
       ∙ turn_by
 
@@ -307,33 +306,33 @@ pub record Taken (T : View) (at looser tightest rank past : ℕ) : Type 0 where
   pub passed : at < past
   pub inside : at < count T.tokens
 
-taken_by : (T : View) (at looser tightest kind j : ℕ) → Next T at kind j → tightest ≤ 7 → (rank past : ℕ) → (turn_of looser tightest (rank_in 1 levels kind) (behind_in 0 levels kind) j).turn ≡ Takes rank past → Taken T at looser tightest rank past
+taken_by : (T : View) (at looser tightest kind j : ℕ) → Next T at kind j → tightest ≤ 7 → (rank past : ℕ) → (turn_of looser tightest (rank_in 1 levels kind) (behind_in 0 levels kind) j).turn ≡ Some (rank, past) → Taken T at looser tightest rank past
 unfolding turn_of
 taken_by T at looser tightest kind j x h rank past e = go (ltb looser (rank_in 1 levels kind)) refl (leb (rank_in 1 levels kind) tightest) refl e
   where
-    takes_one : Turn → Bool
-    takes_one Over = false
-    takes_one (Takes r i) = true
+    takes_one : Option (ℕ × ℕ) → Bool
+    takes_one None = false
+    takes_one (Some t) = true
 
-    level_of : Turn → ℕ
-    level_of Over = 0
-    level_of (Takes r i) = r
+    level_of : Option (ℕ × ℕ) → ℕ
+    level_of None = 0
+    level_of (Some t) = t.0
 
-    past_of : Turn → ℕ
-    past_of Over = 0
-    past_of (Takes r i) = i
+    past_of : Option (ℕ × ℕ) → ℕ
+    past_of None = 0
+    past_of (Some t) = t.1
 
-    none : Over ≡ Takes rank past → Taken T at looser tightest rank past
+    none : ◌≡◌ {A = Option (ℕ × ℕ)} None (Some (rank, past)) → Taken T at looser tightest rank past
     none e = never (ap takes_one e)
 
     turn : Bool → Tried
     turn b =
         elim b [
-          | true ↦ record { turn = Takes (rank_in 1 levels kind) j; looks = tests_of levels tightest - behind_in 0 levels kind }
-          | false ↦ record { turn = Over; looks = tests_of levels tightest - tests_of levels looser }
+          | true ↦ record { turn = Some (rank_in 1 levels kind, j); looks = tests_of levels tightest - behind_in 0 levels kind }
+          | false ↦ record { turn = None; looks = tests_of levels tightest - tests_of levels looser }
         ]
 
-    go : (a : Bool) → ltb looser (rank_in 1 levels kind) ≡ a → (b : Bool) → leb (rank_in 1 levels kind) tightest ≡ b → (turn (a && b)).turn ≡ Takes rank past → Taken T at looser tightest rank past
+    go : (a : Bool) → ltb looser (rank_in 1 levels kind) ≡ a → (b : Bool) → leb (rank_in 1 levels kind) tightest ≡ b → (turn (a && b)).turn ≡ Some (rank, past) → Taken T at looser tightest rank past
     go true s true t e =
         let k : rank_in 1 levels kind ≡ rank = ap level_of e in
         let i : j ≡ past = ap past_of e in
@@ -344,7 +343,7 @@ taken_by T at looser tightest kind j x h rank past e = go (ltb looser (rank_in 1
     go true s false t e = none e
     go false s b t e = none e
 
-pub taken : (T : View) (at looser tightest rank past : ℕ) → tightest ≤ 7 → (turn_at T at looser tightest).turn ≡ Takes rank past → Taken T at looser tightest rank past
+pub taken : (T : View) (at looser tightest rank past : ℕ) → tightest ≤ 7 → (turn_at T at looser tightest).turn ≡ Some (rank, past) → Taken T at looser tightest rank past
 unfolding turn_at
 taken T at looser tightest rank past h e = taken_by T at looser tightest _ _ (peeked T at _ refl) h rank past e
 
@@ -469,9 +468,9 @@ module _ (T : View) (low : Which → Reader) (looser : ℕ) where
     left f r p = run T low (onward T f (drop looser levels) (r - looser) g) p E N
 
     -- what a turn comes to, after so many looks: what was found so far; or an operation, and the turns from its level on
-    abbrev pub turned_by : State → ℕ → ℕ → Turn → ℕ → Reply
-    turned_by p f r Over n = reply (looked p n) (Node g) E N
-    turned_by p f r (Takes rank j) n = and_then (run T low (binary_at T rank) (moved (looked p n) j) E N) λ right q E N. and_then (push_node (row_if (leb rank 2) (logical_row g.node j right.node) (binary_row g.node j right.node)) q E N) λ o q E N. run T low (onward T (spare T f (r - rank)) (drop looser levels) (rank - looser) o) q E N
+    abbrev pub turned_by : State → ℕ → ℕ → Option (ℕ × ℕ) → ℕ → Reply
+    turned_by p f r None n = reply (looked p n) (Node g) E N
+    turned_by p f r (Some t) n = and_then (run T low (binary_at T t.0) (moved (looked p n) t.1) E N) λ right q E N. and_then (push_node (row_if (leb t.0 2) (logical_row g.node t.1 right.node) (binary_row g.node t.1 right.node)) q E N) λ o q E N. run T low (onward T (spare T f (r - t.0)) (drop looser levels) (t.0 - looser) o) q E N
 
     abbrev pub turned : State → ℕ → ℕ → Tried → Reply
     turned p f r t = turned_by p f r t.turn t.looks
@@ -500,7 +499,7 @@ module _ (T : View) (low : Which → Reader) (looser : ℕ) where
 
       module _ (p : State) (x : Next T p.current kind j) where
         -- an operator of level rank, after a left operand that loops up to level r may go on with: it is read there, and level rank is then the tightest that is open
-        turns_found : (f r rank : ℕ) → looser < rank → rank ≤ r → r ≤ 7 → rank_in 1 levels kind ≡ rank → left (suc f) r p ≡ turned_by p f r (Takes rank j) (tests_of levels r - behind_in 0 levels kind)
+        turns_found : (f r rank : ℕ) → looser < rank → rank ≤ r → r ≤ 7 → rank_in 1 levels kind ≡ rank → left (suc f) r p ≡ turned_by p f r (Some (rank, j)) (tests_of levels r - behind_in 0 levels kind)
         turns_found f r rank a b c k =
             let z : r ≡ rank + (r - rank) = omega arith in
             let v : suc (rank - 1) ≡ rank = omega arith in
@@ -517,16 +516,16 @@ module _ (T : View) (low : Which → Reader) (looser : ℕ) where
             ∙ ap (λ (q : State). and_then (run T low (binary_at T rank) (moved q j) E N) λ right q E N. and_then (push_node (row_if (leb rank 2) (logical_row g.node j right.node) (binary_row g.node j right.node)) q E N) λ o q E N. run T low (onward T (spare T f (r - rank)) (drop looser levels) (rank - looser) o) q E N) (looked_more p n place ∙ ap (looked p) y)
 
         -- no operator that is read here
-        turns_over : (f r : ℕ) → r ≤ 7 → ((y : ℕ) → looser < y → y ≤ r → rank_in 1 levels kind ≡ y → ⊥) → left (suc f) r p ≡ turned_by p f r Over (tests_of levels r - tests_of levels looser)
+        turns_over : (f r : ℕ) → r ≤ 7 → ((y : ℕ) → looser < y → y ≤ r → rank_in 1 levels kind ≡ y → ⊥) → left (suc f) r p ≡ turned_by p f r None (tests_of levels r - tests_of levels looser)
         turns_over f r c h = ⊎_elim below above (lt_or_le looser r)
           where
-            below : looser < r → left (suc f) r p ≡ turned_by p f r Over (tests_of levels r - tests_of levels looser)
+            below : looser < r → left (suc f) r p ≡ turned_by p f r None (tests_of levels r - tests_of levels looser)
             below l =
                 let z : r ≡ looser + (r - looser) = omega arith in
                 let d = down (r - looser) looser f p x (omega arith) (omega arith) (λ y m n. h y m (omega arith)) in
                 ap (λ (i : ℕ). left (suc f) i p) z ∙ d ∙ turns_none (suc (spare T f (r - looser))) looser g _ E N (omega arith) ∙ ap (λ (i : ℕ). reply (looked p (tests_of levels i - tests_of levels looser)) (Node g) E N) (sym z)
 
-            above : r ≤ looser → left (suc f) r p ≡ turned_by p f r Over (tests_of levels r - tests_of levels looser)
+            above : r ≤ looser → left (suc f) r p ≡ turned_by p f r None (tests_of levels r - tests_of levels looser)
             above l =
                 let z : r + (looser - r) ≡ looser = omega arith in
                 let e = ap (tests_of levels) z in
@@ -541,8 +540,8 @@ module _ (T : View) (low : Which → Reader) (looser : ℕ) where
             turn : Bool → Tried
             turn b =
                 elim b [
-                  | true ↦ record { turn = Takes (rank_in 1 levels kind) j; looks = tests_of levels r - behind_in 0 levels kind }
-                  | false ↦ record { turn = Over; looks = tests_of levels r - tests_of levels looser }
+                  | true ↦ record { turn = Some (rank_in 1 levels kind, j); looks = tests_of levels r - behind_in 0 levels kind }
+                  | false ↦ record { turn = None; looks = tests_of levels r - tests_of levels looser }
                 ]
 
             go : (a : Bool) → ltb looser (rank_in 1 levels kind) ≡ a → (b : Bool) → leb (rank_in 1 levels kind) r ≡ b → left (suc f) r p ≡ turned p f r (turn (a && b))

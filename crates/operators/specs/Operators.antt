@@ -6,7 +6,7 @@ use Rattle.parser.specs.Programs.{Prog, give, ◌>>=◌}
 use Rattle.parser.specs.Grammar.{Level, levels, fuel, binary_from, binary}
 use Rattle.pieces.specs.Pieces.{among, place_in}
 use Rattle.operators.specs.declared.Tried.{Tried}
-use Rattle.operators.specs.declared.Turn.TheVariants.{Over, Takes}
+use Rattle.std.specs.Prelude.{Option, Some, None}
 
 -- the number of the level, the first of them n, that has an operator of this kind; 0 if none has
 unfoldable pub rank_in : ℕ → List Level → ℕ → ℕ
@@ -46,8 +46,8 @@ behind_in n (l ∷ ls) kind = elim (among l.operators kind) [ true ↦ n + lengt
 unfoldable pub turn_of : ℕ → ℕ → ℕ → ℕ → ℕ → Tried
 turn_of looser tightest rank behind past =
     elim (ltb looser rank && leb rank tightest) [
-      | true ↦ record { turn = Takes rank past; looks = tests_of levels tightest - behind }
-      | false ↦ record { turn = Over; looks = tests_of levels tightest - tests_of levels looser }
+      | true ↦ record { turn = Some (rank, past); looks = tests_of levels tightest - behind }
+      | false ↦ record { turn = None; looks = tests_of levels tightest - tests_of levels looser }
     ]
 
 -- the turn at a token: what stands past the newlines makes it; what is no operator has level 0, which is no loop's

@@ -2,25 +2,20 @@
 #![tactic(auto)]
 
 ghost use Rattle.std.specs.Prelude.{◌≡◌, leb, ◌-◌};
-ghost use Rattle.parser.specs.Tokens.{indexed};
+ghost use Rattle.parser.specs.Tokens.{view};
 ghost use Rattle.parser.specs.Nodes as rows;
 ghost use Rattle.parser.specs.Grammar.{levels, row_if};
 ghost use Rattle.operators.specs.Operators.{rank_in, tests_of, behind_in, turn_at};
 
+use parser::Tokens;
 use records::Node;
 use token::Token;
 
-// What a turn does: none is left, or it takes an operator of that level and goes on at that token. The right operand is of the tighter levels, so that a level groups left.
-#[derive(Clone, Copy)]
-pub enum Turn {
-    Over,
-    Takes(u32, u32),
-}
-
-// A turn, and how often the Rust's nested loops call `check` for it.
+// What a turn of the readers' one loop takes, the operator's level and the token to go on at, if it takes one; and how often the Rust's nested loops call `check` for it. The right
+// operand is of the tighter levels, so that a level groups left.
 #[derive(Clone, Copy)]
 pub struct Tried {
-    pub turn: Turn,
+    pub turn: Option<(u32, u32)>,
     pub looks: u32,
 }
 
@@ -93,18 +88,15 @@ fn behind_of(kind: u32) -> u32
 fn without(tests: u32, behind: u32) -> u32
     ensures { result ≡ tests - behind }
 {
-    if tests < behind {
-        return 0;
-    }
-    tests - behind
+    tests.saturating_sub(behind)
 }
 
 // The turn at a token, where the levels tighter than `looser` are read and the last turn left those up to `tightest` open. An operator's level is between the two
 // exactly if the number of tests that come after its own is at least that of the levels up to `looser`, and below that of the levels up to `tightest`.
-pub fn turn_at(tokens: &[u32], index: &[u32], at: u32, looser: u32, tightest: u32) -> Tried
-    ensures { result ≡ turn_at (indexed tokens.now index.now) at looser tightest }
+pub fn turn_at(t: &Tokens, at: u32, looser: u32, tightest: u32) -> Tried
+    ensures { result ≡ turn_at (view t.now) at looser tightest }
 {
-    let coming = parser::peek(tokens, index, at);
+    let coming = t.peek(at);
     let kind = coming.kind;
     let open = tests_of(tightest);
     let closed = tests_of(looser);
@@ -112,12 +104,12 @@ pub fn turn_at(tokens: &[u32], index: &[u32], at: u32, looser: u32, tightest: u3
     if (closed <= behind) & (behind < open) {
         let rank = rank_of(kind);
         return Tried {
-            turn: Turn::Takes(rank, coming.past),
+            turn: Some((rank, coming.past)),
             looks: without(open, behind),
         };
     }
     Tried {
-        turn: Turn::Over,
+        turn: None,
         looks: without(open, closed),
     }
 }

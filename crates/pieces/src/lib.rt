@@ -1,19 +1,20 @@
 // The parts of the readers that call no reader: rows, endings, lists of names. The crates `operators` and `grammar`, which use this one, have the operators and the readers that call each other.
 #![tactic(auto)]
 
-ghost use Rattle.std.specs.Prelude.{◌≡◌, List, ℕ, ◌-◌};
+ghost use Rattle.std.specs.Prelude.{◌≡◌, List, ℕ, ◌-◌, Ok};
 ghost use Rattle.rules.specs.Rules.{loops_behind};
-ghost use Rattle.parser.specs.Tokens.{indexed};
-ghost use Rattle.parser.specs.Tables.{reply, looked, looped, and_then, push_node, push_error};
+ghost use Rattle.parser.specs.Tokens.{indexed, view};
+ghost use Rattle.parser.specs.Tables.{reply, answered, looked, looped, and_then, push_node, push_error};
 ghost use Rattle.parser.specs.Nodes as rows;
+ghost use Rattle.parser.specs.Tables as tables;
 ghost use Rattle.parser.specs.Programs.{Which, Reader, run};
 ghost use Rattle.parser.specs.Grammar as specs;
 ghost use Rattle.parser.specs.Grammar.{named, last_of, form_through, fuel, names_from, closed, super_expr};
 ghost use Rattle.pieces.specs.Pieces as pieces;
 ghost use Rattle.pieces.specs.Pieces.{end_class, place_in, literals, prefixes, suffixes};
 
-use parser::{Form, Found, Got, Out, Seen, State};
-use records::{Node, Outcome};
+use parser::{Form, Found, Out, State, Tokens};
+use records::{Message, Node, Outcome};
 use token::Token;
 
 // A row of the node table; `next` is 0 until a list goes on.
@@ -35,20 +36,18 @@ pub fn row(kind: u32, t1: u32, t2: u32, t3: u32, c1: u32, c2: u32, c3: u32, c4: 
 
 // What was found, with another node and another form.
 pub fn gives_form(p: State, n: u32, form: Form, access: u32) -> Out
-    ensures { result ≡ record { p = p; got = Got.Node (record { node = n; form = form; access = access }) } }
+    ensures { result ≡ Ok (p, record { node = n; form = form; access = access }) }
 {
-    Out {
-        p,
-        got: Got::Node(Found {
-            node: n,
-            form,
-            access,
-        }),
-    }
+    let found = Found {
+        node: n,
+        form,
+        access,
+    };
+    Ok((p, found))
 }
 
 // The same form. A value that is handed on as a whole is read in wider pieces than it was written in, and the processor waits for that; every operand passes
-// here, so its form is taken apart and made anew. So are answers, in `found` and `passed`.
+// here, so its form is taken apart and made anew.
 fn same_form(form: Form) -> Form
     ensures { result ≡ form }
 {
@@ -62,22 +61,9 @@ fn same_form(form: Form) -> Form
 
 // What was found.
 pub fn found(p: State, f: Found) -> Out
-    ensures { result ≡ record { p = p; got = Got.Node f } }
+    ensures { result ≡ Ok (p, f) }
 {
-    let form = f.form;
-    gives_form(p, f.node, same_form(form), f.access)
-}
-
-// An answer that is passed on as it is, by its parts: the stops of the readers that every operand passes.
-pub fn passed(g: Out) -> Out
-    ensures { result ≡ g }
-{
-    let q = g.p;
-    let k = g.got;
-    match k {
-        Got::Node(f) => found(q, f),
-        Got::Stop(outcome) => parser::stopped(q, outcome),
-    }
+    gives_form(p, f.node, same_form(f.form), f.access)
 }
 
 // The `last` of an expression statement: none if the expression is Empty.
@@ -105,31 +91,19 @@ pub fn form_through(form: Form) -> Form
 }
 
 // An error that stops the reading.
-pub fn fatal(tokens: &[u32], errors: &mut [u32], p: State, message: u32, token: u32) -> Out
-    ensures { (N : List ℕ) → reply result.p result.got errors.new N ≡ and_then (push_error tokens.now message token p errors.old N) λ f q E N. reply q (Got.Stop 1) E N }
+pub fn fatal(t: &Tokens, errors: &mut [u32], p: State, message: u32, token: u32) -> Out
+    ensures { (N : List ℕ) → answered result errors.new N ≡ and_then (push_error t.now.table.now message token p errors.old N) λ f q E N. reply q (tables.Stop 1) E N }
 {
-    let g = parser::set_error(tokens, errors, p, message, token);
-    let k = g.got;
-    let Got::Node(_) = k else {
-        return g;
-    };
-    let q = g.p;
-    parser::stopped(q, Outcome::FatalStop as u32)
+    let (q, _) = t.set_error(errors, p, message, token)?;
+    parser::stops(q, Outcome::FatalStop)
 }
 
 // Parameters up to what is no comma; the 257th is message 10.
-pub fn parameters(
-    tokens: &[u32],
-    errors: &mut [u32],
-    nodes: &mut [u32],
-    index: &[u32],
-    p: State,
-    message: u32,
-) -> Out
-    ensures { (low : Which → Reader) → reply result.p result.got errors.new nodes.new ≡ run (indexed tokens.now index.now) low (specs.parameters (indexed tokens.now index.now) message) p errors.old nodes.old }
+pub fn parameters(t: &Tokens, errors: &mut [u32], nodes: &mut [u32], p: State, message: u32) -> Out
+    ensures { (low : Which → Reader) → answered result errors.new nodes.new ≡ run (view t.now) low (specs.parameters (view t.now) message) p errors.old nodes.old }
 {
     let at = p.current;
-    if let Seen::At(i) = parser::check(tokens, index, at, Token::RIGHT_PAREN) {
+    if let Some(i) = t.check(at, Token::RIGHT_PAREN) {
         return parser::gives(p.at_token(i, 1), 0);
     }
     let mut s = p.looked(1);
@@ -139,26 +113,16 @@ pub fn parameters(
     loop {
         if 255 < n {
             let at = s.current;
-            return fatal(tokens, errors, s, 10, at);
+            return fatal(t, errors, s, Message::MAX_PARAMETERS, at);
         }
-        let g = parser::require(tokens, errors, index, s, Token::IDENTIFIER, message);
-        let k = g.got;
-        let Got::Node(i) = k else {
-            return g;
-        };
-        let q = g.p;
-        let h = parser::make(nodes, q, row(Node::NAME, i.node, 0, 0, 0, 0, 0, 0));
-        let k = h.got;
-        let Got::Node(d) = k else {
-            return h;
-        };
+        let (q, i) = t.require(errors, s, Token::IDENTIFIER, message)?;
+        let (u, d) = parser::make(nodes, q, row(Node::NAME, i.node, 0, 0, 0, 0, 0, 0))?;
         records::link(nodes, last, d.node);
-        let u = h.p;
         first = parser::first_of(first, d.node);
         last = d.node;
         n += 1;
         let at = u.current;
-        let Seen::At(i) = parser::matches(tokens, index, at, Token::COMMA) else {
+        let Some(i) = t.matches(at, Token::COMMA) else {
             return parser::gives(u.looked(1), first);
         };
         s = u.at_token(i, 1);
@@ -167,80 +131,56 @@ pub fn parameters(
 
 // `expression_stmt`, after its expression.
 pub fn expression_stmt(nodes: &mut [u32], expression: Out) -> Out
-    ensures { (E : List ℕ) → reply result.p result.got E nodes.new ≡ and_then (reply expression.p expression.got E nodes.old) λ e q E N. push_node (rows.expr_row (last_of e.form q.current) e.node) q E N }
+    ensures { (E : List ℕ) → answered result E nodes.new ≡ and_then (answered expression E nodes.old) λ e q E N. push_node (rows.expr_row (last_of e.form q.current) e.node) q E N }
 {
-    let k = expression.got;
-    let Got::Node(e) = k else {
-        return expression;
-    };
-    let q = expression.p;
-    let f = e.form;
-    let at = q.current;
-    let last = last_of(f, at);
+    let (q, e) = expression?;
+    let last = last_of(e.form, q.current);
     parser::make(nodes, q, row(Node::EXPR, last, 0, 0, e.node, 0, 0, 0))
 }
 
 // The node of a function, after what its body gave.
 pub fn fn_node(nodes: &mut [u32], body: Out, kind: u32, name: u32, params: u32) -> Out
-    ensures { (E : List ℕ) → reply result.p result.got E nodes.new ≡ and_then (reply body.p body.got E nodes.old) λ stmts q E N. push_node (rows.row kind name 0 0 params stmts.node 0 0) q E N }
+    ensures { (E : List ℕ) → answered result E nodes.new ≡ and_then (answered body E nodes.old) λ stmts q E N. push_node (rows.row kind name 0 0 params stmts.node 0 0) q E N }
 {
-    let k = body.got;
-    let Got::Node(stmts) = k else {
-        return body;
-    };
-    let q = body.p;
+    let (q, stmts) = body?;
     parser::make(nodes, q, row(kind, name, 0, 0, params, stmts.node, 0, 0))
 }
 
 // The superclass, if `<` follows.
-pub fn superclass(
-    tokens: &[u32],
-    errors: &mut [u32],
-    nodes: &mut [u32],
-    index: &[u32],
-    p: State,
-) -> Out
-    ensures { (low : Which → Reader) → reply result.p result.got errors.new nodes.new ≡ run (indexed tokens.now index.now) low (pieces.superclass) p errors.old nodes.old }
+pub fn superclass(t: &Tokens, errors: &mut [u32], nodes: &mut [u32], p: State) -> Out
+    ensures { (low : Which → Reader) → answered result errors.new nodes.new ≡ run (view t.now) low (pieces.superclass) p errors.old nodes.old }
 {
     let at = p.current;
-    let Seen::At(i) = parser::matches(tokens, index, at, Token::LESS) else {
+    let Some(i) = t.matches(at, Token::LESS) else {
         return parser::gives(p.looked(1), 0);
     };
-    let g = parser::consume(
-        tokens,
+    let (q, c) = t.consume(
         errors,
-        index,
         p.at_token(i, 1),
         Token::IDENTIFIER,
-        5,
-    );
-    let k = g.got;
-    let Got::Node(c) = k else {
-        return g;
-    };
-    let q = g.p;
+        Message::EXPECTED_VARIABLE_NAME,
+    )?;
     parser::make(nodes, q, row(Node::VAR, c.node, 0, 0, 0, 0, 0, 0))
 }
 
 pub fn end_class(
-    tokens: &[u32],
+    t: &Tokens,
     errors: &mut [u32],
     nodes: &mut [u32],
-    index: &[u32],
     p: State,
     name: u32,
     methods: u32,
     statics: u32,
     sup: u32,
 ) -> Out
-    ensures { (low : Which → Reader) → reply result.p result.got errors.new nodes.new ≡ run (indexed tokens.now index.now) low (end_class name sup methods statics) p errors.old nodes.old }
+    ensures { (low : Which → Reader) → answered result errors.new nodes.new ≡ run (view t.now) low (end_class name sup methods statics) p errors.old nodes.old }
 {
-    let c = parser::consume(tokens, errors, index, p, Token::RIGHT_CURLY_BRACE, 7);
-    let k = c.got;
-    let Got::Node(_) = k else {
-        return c;
-    };
-    let q = c.p;
+    let (q, _) = t.consume(
+        errors,
+        p,
+        Token::RIGHT_CURLY_BRACE,
+        Message::EXPECTED_RIGHT_CURLY,
+    )?;
     parser::make(
         nodes,
         q,
@@ -249,34 +189,29 @@ pub fn end_class(
 }
 
 // The names of an enhanced for; commas between them may be missing.
-pub fn names(tokens: &[u32], nodes: &mut [u32], index: &[u32], p: State) -> Out
-    ensures { (low : Which → Reader) (E : List ℕ) → reply result.p result.got E nodes.new ≡ run (indexed tokens.now index.now) low (names_from (indexed tokens.now index.now) (fuel (indexed tokens.now index.now)) 0 0) p E nodes.old }
+pub fn names(t: &Tokens, nodes: &mut [u32], p: State) -> Out
+    ensures { (low : Which → Reader) (E : List ℕ) → answered result E nodes.new ≡ run (view t.now) low (names_from (view t.now) (fuel (view t.now)) 0 0) p E nodes.old }
 {
     let mut s = p;
     let mut first = 0;
     let mut last = 0;
     loop {
         let at = s.current;
-        let Seen::At(i) = parser::matches(tokens, index, at, Token::IDENTIFIER) else {
+        let Some(i) = t.matches(at, Token::IDENTIFIER) else {
             return parser::gives(s.looked(1), first);
         };
-        let g = parser::make(
+        let (u, n) = parser::make(
             nodes,
             s.at_token(i, 1),
             row(Node::NAME, i, 0, 0, 0, 0, 0, 0),
-        );
-        let k = g.got;
-        let Got::Node(n) = k else {
-            return g;
-        };
+        )?;
         records::link(nodes, last, n.node);
         first = parser::first_of(first, n.node);
         last = n.node;
-        let u = g.p;
         let at = u.current;
-        s = match parser::matches(tokens, index, at, Token::COMMA) {
-            Seen::At(j) => u.at_token(j, 1),
-            Seen::Nothing => u.looked(1),
+        s = match t.matches(at, Token::COMMA) {
+            Some(j) => u.at_token(j, 1),
+            None => u.looked(1),
         };
     }
 }
@@ -290,13 +225,9 @@ pub fn if_node(
     stmts: u32,
     elifs: u32,
 ) -> Out
-    ensures { (E : List ℕ) → reply result.p result.got E nodes.new ≡ and_then (reply others.p others.got E nodes.old) λ o q E N. push_node (rows.if_row keyword cond stmts elifs o.node) (looked q 1) E N }
+    ensures { (E : List ℕ) → answered result E nodes.new ≡ and_then (answered others E nodes.old) λ o q E N. push_node (rows.if_row keyword cond stmts elifs o.node) (looked q 1) E N }
 {
-    let k = others.got;
-    let Got::Node(o) = k else {
-        return others;
-    };
-    let q = others.p;
+    let (q, o) = others?;
     parser::make(
         nodes,
         q.looked(1),
@@ -306,13 +237,9 @@ pub fn if_node(
 
 // The node of an enhanced for, after its body; the loop count is given back where the rule says so.
 pub fn for_node(nodes: &mut [u32], body: Out, keyword: u32, ids: u32, collection: u32) -> Out
-    ensures { (E : List ℕ) → reply result.p result.got E nodes.new ≡ and_then (reply body.p body.got E nodes.old) λ stmt q E N. push_node (rows.enhanced_for_row keyword ids collection stmt.node) (looped q (loops_behind q.rule q.loops)) E N }
+    ensures { (E : List ℕ) → answered result E nodes.new ≡ and_then (answered body E nodes.old) λ stmt q E N. push_node (rows.enhanced_for_row keyword ids collection stmt.node) (looped q (loops_behind q.rule q.loops)) E N }
 {
-    let k = body.got;
-    let Got::Node(stmt) = k else {
-        return body;
-    };
-    let after = body.p;
+    let (after, stmt) = body?;
     parser::make(
         nodes,
         after.give_back(),
@@ -331,24 +258,19 @@ pub fn for_node(nodes: &mut [u32], body: Out, keyword: u32, ids: u32, collection
 
 // `brk` and `cont`: they differ in the node's kind.
 pub fn jump(
-    tokens: &[u32],
+    t: &Tokens,
     errors: &mut [u32],
     nodes: &mut [u32],
     p: State,
     kind: u32,
     keyword: u32,
 ) -> Out
-    ensures { (low : Which → Reader) (I : List ℕ) → reply result.p result.got errors.new nodes.new ≡ run (indexed tokens.now I) low (pieces.jump kind keyword) p errors.old nodes.old }
+    ensures { (low : Which → Reader) (I : List ℕ) → answered result errors.new nodes.new ≡ run (indexed t.now.table.now I) low (pieces.jump kind keyword) p errors.old nodes.old }
 {
     if p.inside_loop() {
         return parser::make(nodes, p, row(kind, keyword, 0, 0, 0, 0, 0, 0));
     }
-    let g = parser::set_error(tokens, errors, p, 19, before(keyword));
-    let k = g.got;
-    let Got::Node(_) = k else {
-        return g;
-    };
-    let q = g.p;
+    let (q, _) = t.set_error(errors, p, Message::ONLY_INSIDE_LOOP, before(keyword))?;
     parser::make(nodes, q, row(kind, keyword, 0, 0, 0, 0, 0, 0))
 }
 
@@ -356,67 +278,41 @@ pub fn jump(
 pub fn before(token: u32) -> u32
     ensures { result ≡ token - 1 }
 {
-    if token == 0 { 0 } else { token - 1 }
+    token.saturating_sub(1)
 }
 
 // `list`, after its elements.
-pub fn list(
-    tokens: &[u32],
-    errors: &mut [u32],
-    nodes: &mut [u32],
-    index: &[u32],
-    elements: Out,
-) -> Out
-    ensures { (low : Which → Reader) → reply result.p result.got errors.new nodes.new ≡ and_then (reply elements.p elements.got errors.old nodes.old) λ e q E N. run (indexed tokens.now index.now) low (pieces.list_end e) q E N }
+pub fn list(t: &Tokens, errors: &mut [u32], nodes: &mut [u32], elements: Out) -> Out
+    ensures { (low : Which → Reader) → answered result errors.new nodes.new ≡ and_then (answered elements errors.old nodes.old) λ e q E N. run (view t.now) low (pieces.list_end e) q E N }
 {
-    let k = elements.got;
-    let Got::Node(e) = k else {
-        return elements;
-    };
-    let q = elements.p;
-    let h = parser::require(tokens, errors, index, q, Token::RIGHT_BRACE, 20);
-    let k = h.got;
-    let Got::Node(t) = k else {
-        return h;
-    };
-    let q = h.p;
-    parser::make(nodes, q, row(Node::LIST, t.node, 0, 0, e.node, 0, 0, 0))
+    let (q, e) = elements?;
+    let (s, mark) = t.require(errors, q, Token::RIGHT_BRACE, Message::EXPECTED_END_OF_LIST)?;
+    parser::make(nodes, s, row(Node::LIST, mark.node, 0, 0, e.node, 0, 0, 0))
 }
 
 // `dictionary`, after its elements.
-pub fn dictionary(
-    tokens: &[u32],
-    errors: &mut [u32],
-    nodes: &mut [u32],
-    index: &[u32],
-    elements: Out,
-) -> Out
-    ensures { (low : Which → Reader) → reply result.p result.got errors.new nodes.new ≡ and_then (reply elements.p elements.got errors.old nodes.old) λ e q E N. run (indexed tokens.now index.now) low (pieces.dictionary_end e) q E N }
+pub fn dictionary(t: &Tokens, errors: &mut [u32], nodes: &mut [u32], elements: Out) -> Out
+    ensures { (low : Which → Reader) → answered result errors.new nodes.new ≡ and_then (answered elements errors.old nodes.old) λ e q E N. run (view t.now) low (pieces.dictionary_end e) q E N }
 {
-    let k = elements.got;
-    let Got::Node(e) = k else {
-        return elements;
-    };
-    let q = elements.p;
-    let h = parser::require(tokens, errors, index, q, Token::RIGHT_CURLY_BRACE, 21);
-    let k = h.got;
-    let Got::Node(t) = k else {
-        return h;
-    };
-    let q = h.p;
+    let (q, e) = elements?;
+    let (s, mark) = t.require(
+        errors,
+        q,
+        Token::RIGHT_CURLY_BRACE,
+        Message::EXPECTED_END_OF_DICT,
+    )?;
     parser::make(
         nodes,
-        q,
-        row(Node::DICTIONARY, t.node, 0, 0, e.node, 0, 0, 0),
+        s,
+        row(Node::DICTIONARY, mark.node, 0, 0, e.node, 0, 0, 0),
     )
 }
 
 // The closing mark and the node of an access.
 pub fn close_access(
-    tokens: &[u32],
+    t: &Tokens,
     errors: &mut [u32],
     nodes: &mut [u32],
-    index: &[u32],
     p: State,
     object: Found,
     brace: u32,
@@ -426,34 +322,28 @@ pub fn close_access(
     d: u32,
     third: u32,
 ) -> Out
-    ensures { (low : Which → Reader) → reply result.p result.got errors.new nodes.new ≡ run (indexed tokens.now index.now) low (closed (indexed tokens.now index.now) object brace first c second d third) p errors.old nodes.old }
+    ensures { (low : Which → Reader) → answered result errors.new nodes.new ≡ run (view t.now) low (closed (view t.now) object brace first c second d third) p errors.old nodes.old }
 {
-    let h = parser::consume(tokens, errors, index, p, Token::RIGHT_BRACE, 24);
-    let k = h.got;
-    let Got::Node(_) = k else {
-        return h;
-    };
-    let q = h.p;
-    let g = parser::make(
+    let (q, _) = t.consume(
+        errors,
+        p,
+        Token::RIGHT_BRACE,
+        Message::EXPECTED_END_OF_SLICE,
+    )?;
+    let (q, n) = parser::make(
         nodes,
         q,
         row(Node::ACCESS, brace, c, d, object.node, first, second, third),
-    );
-    let k = g.got;
-    let Got::Node(n) = k else {
-        return g;
-    };
-    let q = g.p;
+    )?;
     let f = object.form;
     gives_form(q, n.node, form_through(f), n.node)
 }
 
 // The last part of a slice, after its expression.
 pub fn step(
-    tokens: &[u32],
+    t: &Tokens,
     errors: &mut [u32],
     nodes: &mut [u32],
-    index: &[u32],
     third: Out,
     object: Found,
     brace: u32,
@@ -462,93 +352,65 @@ pub fn step(
     second: u32,
     d: u32,
 ) -> Out
-    ensures { (low : Which → Reader) → reply result.p result.got errors.new nodes.new ≡ and_then (reply third.p third.got errors.old nodes.old) λ e q E N. run (indexed tokens.now index.now) low (closed (indexed tokens.now index.now) object brace first c second d e.node) q E N }
+    ensures { (low : Which → Reader) → answered result errors.new nodes.new ≡ and_then (answered third errors.old nodes.old) λ e q E N. run (view t.now) low (closed (view t.now) object brace first c second d e.node) q E N }
 {
-    let k = third.got;
-    let Got::Node(e) = k else {
-        return third;
-    };
-    let q = third.p;
+    let (q, e) = third?;
     close_access(
-        tokens, errors, nodes, index, q, object, brace, first, c, second, d, e.node,
+        t, errors, nodes, q, object, brace, first, c, second, d, e.node,
     )
 }
 
-pub fn super_expr(
-    tokens: &[u32],
-    errors: &mut [u32],
-    nodes: &mut [u32],
-    index: &[u32],
-    p: State,
-    keyword: u32,
-) -> Out
-    ensures { (low : Which → Reader) → reply result.p result.got errors.new nodes.new ≡ run (indexed tokens.now index.now) low (super_expr (indexed tokens.now index.now) keyword) p errors.old nodes.old }
+pub fn super_expr(t: &Tokens, errors: &mut [u32], nodes: &mut [u32], p: State, keyword: u32) -> Out
+    ensures { (low : Which → Reader) → answered result errors.new nodes.new ≡ run (view t.now) low (super_expr (view t.now) keyword) p errors.old nodes.old }
 {
     let at = p.current;
-    if let Seen::At(i) = parser::check(tokens, index, at, Token::LEFT_PAREN) {
+    if let Some(i) = t.check(at, Token::LEFT_PAREN) {
         return parser::make(
             nodes,
             p.at_token(i, 1),
             row(Node::SUPER, keyword, 0, 0, 0, 0, 0, 0),
         );
     }
-    let h = parser::consume(tokens, errors, index, p.looked(1), Token::DOT, 29);
-    let k = h.got;
-    let Got::Node(_) = k else {
-        return h;
-    };
-    let q = h.p;
-    let g = parser::require(tokens, errors, index, q, Token::IDENTIFIER, 5);
-    let k = g.got;
-    let Got::Node(m) = k else {
-        return g;
-    };
-    let q = g.p;
+    let (q, _) = t.consume(
+        errors,
+        p.looked(1),
+        Token::DOT,
+        Message::SUPER_ONLY_FOR_PROPERTY,
+    )?;
+    let (q, m) = t.require(
+        errors,
+        q,
+        Token::IDENTIFIER,
+        Message::EXPECTED_VARIABLE_NAME,
+    )?;
     parser::make(nodes, q, row(Node::SUPER, keyword, m.node, 0, 0, 0, 0, 0))
 }
 
 // A grouping, after its expression.
-pub fn grouping(
-    tokens: &[u32],
-    errors: &mut [u32],
-    nodes: &mut [u32],
-    index: &[u32],
-    p: State,
-    e: u32,
-) -> Out
-    ensures { (low : Which → Reader) → reply result.p result.got errors.new nodes.new ≡ run (indexed tokens.now index.now) low (pieces.grouping e) p errors.old nodes.old }
+pub fn grouping(t: &Tokens, errors: &mut [u32], nodes: &mut [u32], p: State, e: u32) -> Out
+    ensures { (low : Which → Reader) → answered result errors.new nodes.new ≡ run (view t.now) low (pieces.grouping e) p errors.old nodes.old }
 {
-    let h = parser::consume(tokens, errors, index, p, Token::RIGHT_PAREN, 12);
-    let k = h.got;
-    let Got::Node(_) = k else {
-        return h;
-    };
-    let q = h.p;
+    let (q, _) = t.consume(
+        errors,
+        p,
+        Token::RIGHT_PAREN,
+        Message::EXPECT_PAREN_AFTER_EXPRESSION,
+    )?;
     parser::make(nodes, q, row(Node::GROUPING, 0, 0, 0, e, 0, 0, 0))
 }
 
 // The node of a name, which may stand left of `=`.
 pub fn variable(nodes: &mut [u32], p: State, token: u32) -> Out
-    ensures { (E : List ℕ) → reply result.p result.got E nodes.new ≡ and_then (push_node (rows.var_row token) p E nodes.old) λ n q E N. reply q (Got.Node (named token n.node)) E N }
+    ensures { (E : List ℕ) → answered result E nodes.new ≡ and_then (push_node (rows.var_row token) p E nodes.old) λ n q E N. reply q (tables.Node (named token n.node)) E N }
 {
-    let g = parser::make(nodes, p, row(Node::VAR, token, 0, 0, 0, 0, 0, 0));
-    let k = g.got;
-    let Got::Node(n) = k else {
-        return g;
-    };
-    let q = g.p;
+    let (q, n) = parser::make(nodes, p, row(Node::VAR, token, 0, 0, 0, 0, 0, 0))?;
     gives_form(q, n.node, Form::Name(token), 0)
 }
 
 pub fn empty(nodes: &mut [u32], p: State) -> Out
-    ensures { (E : List ℕ) → reply result.p result.got E nodes.new ≡ and_then (push_node rows.empty_row p E nodes.old) λ n q E N. reply q (Got.Node (record { node = n.node; form = Form.Empty; access = 0 })) E N }
+    ensures { (E : List ℕ) → answered result E nodes.new ≡ and_then (push_node rows.empty_row p E nodes.old) λ n q E N. reply q (tables.Node (record { node = n.node; form = Form.Empty; access = 0 })) E N }
 {
-    let g = parser::make(nodes, p, row(Node::EMPTY, 0, 0, 0, 0, 0, 0, 0));
-    let k = g.got;
-    let Got::Node(n) = k else {
-        return g;
-    };
-    let q = g.p;
+    let (q, n) = parser::make(nodes, p, row(Node::EMPTY, 0, 0, 0, 0, 0, 0, 0))?;
     gives_form(q, n.node, Form::Empty, 0)
 }
 
@@ -593,63 +455,40 @@ pub fn suffix_place(kind: u32) -> u32
 }
 
 // `finish_call`, after its arguments.
-pub fn finish_call(
-    tokens: &[u32],
-    errors: &mut [u32],
-    nodes: &mut [u32],
-    index: &[u32],
-    args: Out,
-    callee: u32,
-) -> Out
-    ensures { (low : Which → Reader) → reply result.p result.got errors.new nodes.new ≡ and_then (reply args.p args.got errors.old nodes.old) λ e q E N. run (indexed tokens.now index.now) low (pieces.call_end callee e) q E N }
+pub fn finish_call(t: &Tokens, errors: &mut [u32], nodes: &mut [u32], args: Out, callee: u32) -> Out
+    ensures { (low : Which → Reader) → answered result errors.new nodes.new ≡ and_then (answered args errors.old nodes.old) λ e q E N. run (view t.now) low (pieces.call_end callee e) q E N }
 {
-    let k = args.got;
-    let Got::Node(e) = k else {
-        return args;
-    };
-    let q = args.p;
-    let h = parser::require(tokens, errors, index, q, Token::RIGHT_PAREN, 26);
-    let k = h.got;
-    let Got::Node(t) = k else {
-        return h;
-    };
-    let q = h.p;
+    let (q, e) = args?;
+    let (s, mark) = t.require(
+        errors,
+        q,
+        Token::RIGHT_PAREN,
+        Message::EXPECT_PAREN_AFTER_ARGUMENTS,
+    )?;
     parser::make(
         nodes,
-        q,
-        row(Node::CALL, t.node, 0, 0, callee, e.node, 0, 0),
+        s,
+        row(Node::CALL, mark.node, 0, 0, callee, e.node, 0, 0),
     )
 }
 
 // A property, after its dot.
-pub fn get(
-    tokens: &[u32],
-    errors: &mut [u32],
-    nodes: &mut [u32],
-    index: &[u32],
-    p: State,
-    object: u32,
-) -> Out
-    ensures { (low : Which → Reader) → reply result.p result.got errors.new nodes.new ≡ run (indexed tokens.now index.now) low (pieces.get object) p errors.old nodes.old }
+pub fn get(t: &Tokens, errors: &mut [u32], nodes: &mut [u32], p: State, object: u32) -> Out
+    ensures { (low : Which → Reader) → answered result errors.new nodes.new ≡ run (view t.now) low (pieces.get object) p errors.old nodes.old }
 {
-    let g = parser::require(tokens, errors, index, p, Token::IDENTIFIER, 25);
-    let k = g.got;
-    let Got::Node(name) = k else {
-        return g;
-    };
-    let q = g.p;
-    let h = parser::make(nodes, q, row(Node::GET, name.node, 0, 0, object, 0, 0, 0));
-    let k = h.got;
-    let Got::Node(n) = k else {
-        return h;
-    };
-    let q = h.p;
+    let (q, name) = t.require(
+        errors,
+        p,
+        Token::IDENTIFIER,
+        Message::EXPECTED_PROPERTY_NAME,
+    )?;
+    let (q, n) = parser::make(nodes, q, row(Node::GET, name.node, 0, 0, object, 0, 0, 0))?;
     gives_form(q, n.node, Form::Property(name.node, object), 0)
 }
 
 // A name gives an Assign, a property a Set; anything else is message 23 at the `=`.
 pub fn assigned(
-    tokens: &[u32],
+    t: &Tokens,
     errors: &mut [u32],
     nodes: &mut [u32],
     p: State,
@@ -657,7 +496,7 @@ pub fn assigned(
     value: u32,
     equal: u32,
 ) -> Out
-    ensures { (low : Which → Reader) (I : List ℕ) → reply result.p result.got errors.new nodes.new ≡ run (indexed tokens.now I) low (specs.assigned left.form left.access value equal) p errors.old nodes.old }
+    ensures { (low : Which → Reader) (I : List ℕ) → answered result errors.new nodes.new ≡ run (indexed t.now.table.now I) low (specs.assigned left.form left.access value equal) p errors.old nodes.old }
 {
     let f = left.form;
     match f {
@@ -671,7 +510,7 @@ pub fn assigned(
             p,
             row(Node::SET, t, 0, 0, o, value, left.access, 0),
         ),
-        Form::Other => fatal(tokens, errors, p, 23, before(equal)),
-        Form::Empty => fatal(tokens, errors, p, 23, before(equal)),
+        Form::Other => fatal(t, errors, p, Message::UNDEFINED_STATEMENT, before(equal)),
+        Form::Empty => fatal(t, errors, p, Message::UNDEFINED_STATEMENT, before(equal)),
     }
 }

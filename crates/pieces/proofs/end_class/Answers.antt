@@ -1,10 +1,11 @@
+use Rattle.parser.proofs.Exits.{given_up}
 use Rattle.parser.specs.Programs.{run}
 use Rattle.pieces.proofs.end_class.Goals as goal
 
-pub returns-in_default : goal.returns-in_default
+pub returns-in_err-q : goal.returns-in_err-q
 unfolding run
-returns-in_default c = λ low. rw (← c.consume-c.ensures c.args.nodes.now, c.in_default.is)
+returns-in_err-q c = λ low. rw (given_up _ _ c.from_residual.ensures.1) (rw (← c.consume.ensures c.args.nodes.now, c.in_err-q.was))
 
 pub returns : goal.returns
 unfolding run
-returns c = λ low. rw (← c.consume-c.ensures c.args.nodes.now, c.in-Node.is) (rw (← c.row.ensures, ← c.make.ensures c.consume-c.new.errors))
+returns c = λ low. rw (← c.consume.ensures c.args.nodes.now, c.in_ok-q.was) (rw (← c.row.ensures, ← c.make.ensures c.consume.new.errors))

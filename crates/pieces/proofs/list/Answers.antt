@@ -1,10 +1,11 @@
+use Rattle.parser.proofs.Exits.{given_up}
 use Rattle.parser.specs.Programs.{run}
 use Rattle.pieces.proofs.list.Goals as goal
 
-pub returns-in_default-k : goal.returns-in_default-k
+pub returns-in_err-s : goal.returns-in_err-s
 unfolding run
-returns-in_default-k c = λ low. rw c.in-Node.is (rw (← c.require-h.ensures c.args.nodes.now, c.in_default-k.is))
+returns-in_err-s c = λ low. rw (given_up _ _ c.from_residual-in_err-s.ensures.1) (rw c.in_ok-q.was (rw (← c.require.ensures c.args.nodes.now, c.in_err-s.was)))
 
 pub returns : goal.returns
 unfolding run
-returns c = λ low. rw c.in-Node.is (rw (← c.require-h.ensures c.args.nodes.now, c.in-Node-k.is) (rw (← c.row.ensures, ← c.make.ensures c.require-h.new.errors)))
+returns c = λ low. rw c.in_ok-q.was (rw (← c.require.ensures c.args.nodes.now, c.in_ok-s.was) (rw (← c.row.ensures, ← c.make.ensures c.require.new.errors)))

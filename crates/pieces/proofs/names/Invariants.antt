@@ -1,6 +1,6 @@
 use Rattle.std.proofs.Common.{◌≡◌, ℕ, suc, ◌-◌, ◌≤◌, List, length}
 use Rattle.parser.specs.declared.State.{State}
-use Rattle.parser.specs.Tokens.{View, indexed, count}
+use Rattle.parser.specs.Tokens.{View, view, count}
 use Rattle.parser.specs.Programs.{Which, Reader, run}
 use Rattle.parser.specs.Grammar.{names_from}
 use Rattle.pieces.proofs.names.Given as goal
@@ -13,7 +13,7 @@ pub record NamesInv (T : View) (N₀ : List ℕ) (s₀ : State) (N : List ℕ) (
   pub nodes : length N ≡ length N₀
 
 abbrev pub invariant-loop-i : goal.invariant-loop-i
-invariant-loop-i l = NamesInv (indexed l.tokens l.index) l.initial.nodes l.initial.s l.nodes l.s l.first l.last
+invariant-loop-i l = NamesInv (view l.t) l.initial.nodes l.initial.s l.nodes l.s l.first l.last
 
 abbrev pub decreases-loop-i : goal.decreases-loop-i
-decreases-loop-i l = count l.tokens - l.s.current
+decreases-loop-i l = count l.t.table.now - l.s.current

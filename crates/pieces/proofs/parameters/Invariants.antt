@@ -1,6 +1,6 @@
 use Rattle.std.proofs.Common.{◌≡◌, ℕ, suc, ◌-◌, ◌≤◌, List, length}
 use Rattle.parser.specs.declared.State.{State}
-use Rattle.parser.specs.Tokens.{View, indexed, count}
+use Rattle.parser.specs.Tokens.{View, view, count}
 use Rattle.parser.specs.Programs.{Which, Reader, run}
 use Rattle.parser.specs.Grammar.{parameters_from}
 use Rattle.pieces.proofs.parameters.Given as goal
@@ -14,7 +14,7 @@ pub record ParametersInv (T : View) (message : ℕ) (E₀ N₀ : List ℕ) (s₀
   pub nodes : length N ≡ length N₀
 
 abbrev pub invariant-loop-n : goal.invariant-loop-n
-invariant-loop-n l = ParametersInv (indexed l.tokens l.index) l.message l.initial.errors l.initial.nodes l.initial.s l.errors l.nodes l.s l.first l.last l.n
+invariant-loop-n l = ParametersInv (view l.t) l.message l.initial.errors l.initial.nodes l.initial.s l.errors l.nodes l.s l.first l.last l.n
 
 abbrev pub decreases-loop-n : goal.decreases-loop-n
-decreases-loop-n l = count l.tokens - l.s.current
+decreases-loop-n l = count l.t.table.now - l.s.current
