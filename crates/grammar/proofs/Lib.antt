@@ -4,3 +4,4 @@ pub mod Starts
 pub mod Prefix
 pub mod Else
 pub mod CallTurns
+pub mod Loops

@@ -2,8 +2,8 @@
 #![tactic(auto)]
 
 ghost use Rattle.std.specs.Prelude.{◌≡◌, ◌-◌};
-ghost use Rattle.parser.specs.Tokens.{indexed};
-ghost use Rattle.parser.specs.Tables.{reply, and_then};
+ghost use Rattle.parser.specs.Tokens.{view};
+ghost use Rattle.parser.specs.Tables.{answered, and_then};
 ghost use Rattle.parser.specs.Programs.{Declaration, Assignment};
 ghost use Rattle.parser.specs.Grammar as specs;
 ghost use Rattle.parser.specs.Grammar.{fuel, fn_stmt, fn_expr, methods_from, let_stmt, for_loop, enhanced_for, try_catch, if_stmt, elifs_from, while_stmt, dict_elements_from, open_slice, levels, lower};
@@ -11,78 +11,60 @@ ghost use Rattle.pieces.specs.Pieces as pieces;
 ghost use Rattle.pieces.specs.Pieces.{run_at, end_class};
 ghost use Rattle.operators.specs.Operators.{behind_first};
 
-use operators::Turn;
-use parser::{Found, Got, Out, Seen, State};
-use records::{Node, Outcome};
+use parser::{Found, Out, State, Tokens};
+use records::{Message, Node, Outcome};
 use token::Token;
 
 // Declarations up to the closing brace, which is passed.
 #[cycle(grammar)]
-fn block(
-    tokens: &[u32],
-    errors: &mut [u32],
-    nodes: &mut [u32],
-    index: &[u32],
-    p: State,
-    levels: u32,
-) -> Out
-    ensures { reply result.p result.got errors.new nodes.new ≡ run_at (indexed tokens.now index.now) levels (specs.block (indexed tokens.now index.now)) p errors.old nodes.old }
+fn block(t: &Tokens, errors: &mut [u32], nodes: &mut [u32], p: State, levels: u32) -> Out
+    ensures { answered result errors.new nodes.new ≡ run_at (view t.now) levels (specs.block (view t.now)) p errors.old nodes.old }
 {
     let mut first = 0;
     let mut last = 0;
     let mut s = p;
     loop {
         let at = s.current;
-        if let Seen::At(i) = parser::matches(tokens, index, at, Token::RIGHT_CURLY_BRACE) {
+        if let Some(i) = t.matches(at, Token::RIGHT_CURLY_BRACE) {
             return parser::gives(s.at_token(i, 1), first);
         }
-        let g = declaration(tokens, errors, nodes, index, s.looked(1), levels);
-        let k = g.got;
-        let Got::Node(n) = k else {
-            return g;
-        };
+        let (q, n) = declaration(t, errors, nodes, s.looked(1), levels)?;
         records::link(nodes, last, n.node);
         first = parser::first_of(first, n.node);
         last = n.node;
-        s = g.p;
+        s = q;
     }
 }
 
 // A function from its parameters on; its loops are its own.
 #[cycle(grammar)]
 fn func(
-    tokens: &[u32],
+    t: &Tokens,
     errors: &mut [u32],
     nodes: &mut [u32],
-    index: &[u32],
     p: State,
     levels: u32,
     kind: u32,
     name: u32,
     message: u32,
 ) -> Out
-    ensures { reply result.p result.got errors.new nodes.new ≡ run_at (indexed tokens.now index.now) levels (pieces.func (indexed tokens.now index.now) kind name message) p errors.old nodes.old }
+    ensures { answered result errors.new nodes.new ≡ run_at (view t.now) levels (pieces.func (view t.now) kind name message) p errors.old nodes.old }
 {
-    let g = pieces::parameters(tokens, errors, nodes, index, p, message);
-    let k = g.got;
-    let Got::Node(params) = k else {
-        return g;
-    };
-    let q = g.p;
-    let h = parser::consume(tokens, errors, index, q, Token::RIGHT_PAREN, 12);
-    let k = h.got;
-    let Got::Node(_) = k else {
-        return h;
-    };
-    let s = h.p;
+    let (q, params) = pieces::parameters(t, errors, nodes, p, message)?;
+    let (s, _) = t.consume(
+        errors,
+        q,
+        Token::RIGHT_PAREN,
+        Message::EXPECT_PAREN_AFTER_EXPRESSION,
+    )?;
     let at = s.current;
-    match parser::matches(tokens, index, at, Token::LEFT_CURLY_BRACE) {
-        Seen::At(i) => {
-            let b = block(tokens, errors, nodes, index, s.at_token(i, 1), levels);
+    match t.matches(at, Token::LEFT_CURLY_BRACE) {
+        Some(i) => {
+            let b = block(t, errors, nodes, s.at_token(i, 1), levels);
             pieces::fn_node(nodes, b, kind, name, params.node)
         }
-        Seen::Nothing => {
-            let g = assignment(tokens, errors, nodes, index, s.looked(1), levels);
+        None => {
+            let g = assignment(t, errors, nodes, s.looked(1), levels);
             let b = pieces::expression_stmt(nodes, g);
             pieces::fn_node(nodes, b, kind, name, params.node)
         }
@@ -90,136 +72,91 @@ fn func(
 }
 
 #[cycle(grammar)]
-fn fn_stmt(
-    tokens: &[u32],
-    errors: &mut [u32],
-    nodes: &mut [u32],
-    index: &[u32],
-    p: State,
-    levels: u32,
-) -> Out
-    ensures { reply result.p result.got errors.new nodes.new ≡ run_at (indexed tokens.now index.now) levels (fn_stmt (indexed tokens.now index.now)) p errors.old nodes.old }
+fn fn_stmt(t: &Tokens, errors: &mut [u32], nodes: &mut [u32], p: State, levels: u32) -> Out
+    ensures { answered result errors.new nodes.new ≡ run_at (view t.now) levels (fn_stmt (view t.now)) p errors.old nodes.old }
 {
-    let g = parser::require(tokens, errors, index, p, Token::IDENTIFIER, 8);
-    let k = g.got;
-    let Got::Node(name) = k else {
-        return g;
-    };
-    let q = g.p;
+    let (q, name) = t.require(
+        errors,
+        p,
+        Token::IDENTIFIER,
+        Message::EXPECTED_FUNCTION_NAME,
+    )?;
     let outer = q.loops;
-    let h = parser::consume(tokens, errors, index, q.with_loops(0), Token::LEFT_PAREN, 9);
-    let k = h.got;
-    let Got::Node(_) = k else {
-        return h;
-    };
-    let s = h.p;
-    let f = func(
-        tokens,
+    let (s, _) = t.consume(
+        errors,
+        q.with_loops(0),
+        Token::LEFT_PAREN,
+        Message::EXPECT_PAREN_AFTER_NAME,
+    )?;
+    let (u, f) = func(
+        t,
         errors,
         nodes,
-        index,
         s,
         levels,
         Node::FN,
         name.node,
-        11,
-    );
-    let k = f.got;
-    let Got::Node(_) = k else {
-        return f;
-    };
-    let u = f.p;
-    Out {
-        p: u.with_loops(outer),
-        got: k,
-    }
+        Message::EXPECTED_PARAMETER,
+    )?;
+    Ok((u.with_loops(outer), f))
 }
 
 #[cycle(grammar)]
-fn fn_expr(
-    tokens: &[u32],
-    errors: &mut [u32],
-    nodes: &mut [u32],
-    index: &[u32],
-    p: State,
-    levels: u32,
-) -> Out
-    ensures { reply result.p result.got errors.new nodes.new ≡ run_at (indexed tokens.now index.now) levels (fn_expr (indexed tokens.now index.now)) p errors.old nodes.old }
+fn fn_expr(t: &Tokens, errors: &mut [u32], nodes: &mut [u32], p: State, levels: u32) -> Out
+    ensures { answered result errors.new nodes.new ≡ run_at (view t.now) levels (fn_expr (view t.now)) p errors.old nodes.old }
 {
-    let h = parser::consume(tokens, errors, index, p, Token::LEFT_PAREN, 13);
-    let k = h.got;
-    let Got::Node(_) = k else {
-        return h;
-    };
-    let s = h.p;
+    let (s, _) = t.consume(
+        errors,
+        p,
+        Token::LEFT_PAREN,
+        Message::EXPECTED_PAREN_AFTER_NAME,
+    )?;
     let outer = s.loops;
-    let f = func(
-        tokens,
+    let (u, f) = func(
+        t,
         errors,
         nodes,
-        index,
         s.with_loops(0),
         levels,
         Node::FN_EXPR,
         0,
-        14,
-    );
-    let k = f.got;
-    let Got::Node(_) = k else {
-        return f;
-    };
-    let u = f.p;
-    Out {
-        p: u.with_loops(outer),
-        got: k,
-    }
+        Message::EXPECT_PARAMETER,
+    )?;
+    Ok((u.with_loops(outer), f))
 }
 
 #[cycle(grammar)]
-fn class(
-    tokens: &[u32],
-    errors: &mut [u32],
-    nodes: &mut [u32],
-    index: &[u32],
-    p: State,
-    levels: u32,
-) -> Out
-    ensures { reply result.p result.got errors.new nodes.new ≡ run_at (indexed tokens.now index.now) levels (specs.class (indexed tokens.now index.now)) p errors.old nodes.old }
+fn class(t: &Tokens, errors: &mut [u32], nodes: &mut [u32], p: State, levels: u32) -> Out
+    ensures { answered result errors.new nodes.new ≡ run_at (view t.now) levels (specs.class (view t.now)) p errors.old nodes.old }
 {
-    let g = parser::consume(tokens, errors, index, p, Token::IDENTIFIER, 5);
-    let k = g.got;
-    let Got::Node(name) = k else {
-        return g;
-    };
-    let q = g.p;
-    let h = pieces::superclass(tokens, errors, nodes, index, q);
-    let k = h.got;
-    let Got::Node(sup) = k else {
-        return h;
-    };
-    let q = h.p;
-    let c = parser::consume(tokens, errors, index, q, Token::LEFT_CURLY_BRACE, 6);
-    let k = c.got;
-    let Got::Node(_) = k else {
-        return c;
-    };
-    let q = c.p;
-    methods(tokens, errors, nodes, index, q, levels, name.node, sup.node)
+    let (q, name) = t.consume(
+        errors,
+        p,
+        Token::IDENTIFIER,
+        Message::EXPECTED_VARIABLE_NAME,
+    )?;
+    let (q, sup) = pieces::superclass(t, errors, nodes, q)?;
+    let (q, _) = t.consume(
+        errors,
+        q,
+        Token::LEFT_CURLY_BRACE,
+        Message::EXPECTED_LEFT_CURLY,
+    )?;
+    methods(t, errors, nodes, q, levels, name.node, sup.node)
 }
 
 // Methods and static methods, up to the brace or the end; then the class.
 #[cycle(grammar)]
 fn methods(
-    tokens: &[u32],
+    t: &Tokens,
     errors: &mut [u32],
     nodes: &mut [u32],
-    index: &[u32],
     p: State,
     levels: u32,
     name: u32,
     sup: u32,
 ) -> Out
-    ensures { reply result.p result.got errors.new nodes.new ≡ run_at (indexed tokens.now index.now) levels (methods_from (indexed tokens.now index.now) (fuel (indexed tokens.now index.now)) (end_class name sup) 0 0 0 0) p errors.old nodes.old }
+    ensures { answered result errors.new nodes.new ≡ run_at (view t.now) levels (methods_from (view t.now) (fuel (view t.now)) (end_class name sup) 0 0 0 0) p errors.old nodes.old }
 {
     let mut s = p;
     let mut first = 0;
@@ -228,12 +165,11 @@ fn methods(
     let mut last_static = 0;
     loop {
         let at = s.current;
-        if let Seen::At(i) = parser::check(tokens, index, at, Token::RIGHT_CURLY_BRACE) {
+        if let Some(i) = t.check(at, Token::RIGHT_CURLY_BRACE) {
             return pieces::end_class(
-                tokens,
+                t,
                 errors,
                 nodes,
-                index,
                 s.at_token(i, 1),
                 name,
                 first,
@@ -242,74 +178,44 @@ fn methods(
             );
         }
         let u = s.looked(1);
-        if parser::is_at_end(tokens, s) {
-            return pieces::end_class(
-                tokens,
-                errors,
-                nodes,
-                index,
-                u,
-                name,
-                first,
-                first_static,
-                sup,
-            );
+        if t.is_at_end(s) {
+            return pieces::end_class(t, errors, nodes, u, name, first, first_static, sup);
         }
-        if let Seen::At(i) = parser::matches(tokens, index, at, Token::CLASS) {
-            let g = fn_stmt(tokens, errors, nodes, index, u.at_token(i, 1), levels);
-            let k = g.got;
-            let Got::Node(n) = k else {
-                return g;
-            };
+        if let Some(i) = t.matches(at, Token::CLASS) {
+            let (q, n) = fn_stmt(t, errors, nodes, u.at_token(i, 1), levels)?;
             records::link(nodes, last_static, n.node);
             first_static = parser::first_of(first_static, n.node);
             last_static = n.node;
-            s = g.p;
+            s = q;
         } else {
-            let g = fn_stmt(tokens, errors, nodes, index, u.looked(1), levels);
-            let k = g.got;
-            let Got::Node(n) = k else {
-                return g;
-            };
+            let (q, n) = fn_stmt(t, errors, nodes, u.looked(1), levels)?;
             records::link(nodes, last, n.node);
             first = parser::first_of(first, n.node);
             last = n.node;
-            s = g.p;
+            s = q;
         }
     }
 }
 
 #[cycle(grammar)]
-fn let_stmt(
-    tokens: &[u32],
-    errors: &mut [u32],
-    nodes: &mut [u32],
-    index: &[u32],
-    p: State,
-    levels: u32,
-) -> Out
-    ensures { reply result.p result.got errors.new nodes.new ≡ run_at (indexed tokens.now index.now) levels (let_stmt (indexed tokens.now index.now)) p errors.old nodes.old }
+fn let_stmt(t: &Tokens, errors: &mut [u32], nodes: &mut [u32], p: State, levels: u32) -> Out
+    ensures { answered result errors.new nodes.new ≡ run_at (view t.now) levels (let_stmt (view t.now)) p errors.old nodes.old }
 {
-    let g = parser::require(tokens, errors, index, p, Token::IDENTIFIER, 5);
-    let k = g.got;
-    let Got::Node(name) = k else {
-        return g;
-    };
-    let q = g.p;
+    let (q, name) = t.require(
+        errors,
+        p,
+        Token::IDENTIFIER,
+        Message::EXPECTED_VARIABLE_NAME,
+    )?;
     let at = q.current;
-    let Seen::At(i) = parser::matches(tokens, index, at, Token::EQUAL) else {
+    let Some(i) = t.matches(at, Token::EQUAL) else {
         return parser::make(
             nodes,
             q.looked(1),
             pieces::row(Node::LET, name.node, 0, 0, 0, 0, 0, 0),
         );
     };
-    let h = assignment(tokens, errors, nodes, index, q.at_token(i, 1), levels);
-    let k = h.got;
-    let Got::Node(e) = k else {
-        return h;
-    };
-    let s = h.p;
+    let (s, e) = assignment(t, errors, nodes, q.at_token(i, 1), levels)?;
     parser::make(
         nodes,
         s,
@@ -319,104 +225,50 @@ fn let_stmt(
 
 #[cycle(grammar)]
 fn for_loop(
-    tokens: &[u32],
+    t: &Tokens,
     errors: &mut [u32],
     nodes: &mut [u32],
-    index: &[u32],
     p: State,
     levels: u32,
     keyword: u32,
 ) -> Out
-    ensures { reply result.p result.got errors.new nodes.new ≡ run_at (indexed tokens.now index.now) levels (for_loop (indexed tokens.now index.now) keyword) p errors.old nodes.old }
+    ensures { answered result errors.new nodes.new ≡ run_at (view t.now) levels (for_loop (view t.now) keyword) p errors.old nodes.old }
 {
     let s = p.enter_loop();
     let at = s.current;
-    if let Seen::At(i) = parser::check(tokens, index, at, Token::IDENTIFIER) {
-        return for_in(
-            tokens,
-            errors,
-            nodes,
-            index,
-            s.at_token(i, 1),
-            levels,
-            keyword,
-        );
+    if let Some(i) = t.check(at, Token::IDENTIFIER) {
+        return for_in(t, errors, nodes, s.at_token(i, 1), levels, keyword);
     }
     let s = s.looked(1);
-    if let Seen::At(i) = parser::matches(tokens, index, at, Token::SEMICOLON) {
-        return for_c(
-            tokens,
-            errors,
-            nodes,
-            index,
-            s.at_token(i, 1),
-            levels,
-            keyword,
-            0,
-        );
+    if let Some(i) = t.matches(at, Token::SEMICOLON) {
+        return for_c(t, errors, nodes, s.at_token(i, 1), levels, keyword, 0);
     }
     let s = s.looked(1);
-    if let Seen::At(i) = parser::matches(tokens, index, at, Token::LET) {
-        let g = let_stmt(tokens, errors, nodes, index, s.at_token(i, 1), levels);
-        let k = g.got;
-        let Got::Node(n) = k else {
-            return g;
-        };
-        let q = g.p;
-        let h = parser::consume(tokens, errors, index, q, Token::SEMICOLON, 15);
-        let k = h.got;
-        let Got::Node(_) = k else {
-            return h;
-        };
-        let q = h.p;
-        return for_c(tokens, errors, nodes, index, q, levels, keyword, n.node);
+    if let Some(i) = t.matches(at, Token::LET) {
+        let (q, n) = let_stmt(t, errors, nodes, s.at_token(i, 1), levels)?;
+        let (q, _) = t.consume(errors, q, Token::SEMICOLON, Message::EXPECTED_SEMICOLON)?;
+        return for_c(t, errors, nodes, q, levels, keyword, n.node);
     }
-    let h = parser::set_error(tokens, errors, s.looked(1), 16, at);
-    let k = h.got;
-    let Got::Node(_) = k else {
-        return h;
-    };
-    let q = h.p;
-    for_c(tokens, errors, nodes, index, q, levels, keyword, 0)
+    let (q, _) = t.set_error(errors, s.looked(1), Message::EMPTY_OR_LET, at)?;
+    for_c(t, errors, nodes, q, levels, keyword, 0)
 }
 
 #[cycle(grammar)]
 fn for_c(
-    tokens: &[u32],
+    t: &Tokens,
     errors: &mut [u32],
     nodes: &mut [u32],
-    index: &[u32],
     p: State,
     levels: u32,
     keyword: u32,
     init: u32,
 ) -> Out
-    ensures { reply result.p result.got errors.new nodes.new ≡ run_at (indexed tokens.now index.now) levels (pieces.classic (indexed tokens.now index.now) keyword init) p errors.old nodes.old }
+    ensures { answered result errors.new nodes.new ≡ run_at (view t.now) levels (pieces.classic (view t.now) keyword init) p errors.old nodes.old }
 {
-    let g = assignment(tokens, errors, nodes, index, p, levels);
-    let k = g.got;
-    let Got::Node(cond) = k else {
-        return g;
-    };
-    let q = g.p;
-    let h = parser::consume(tokens, errors, index, q, Token::SEMICOLON, 15);
-    let k = h.got;
-    let Got::Node(_) = k else {
-        return h;
-    };
-    let q = h.p;
-    let g = assignment(tokens, errors, nodes, index, q, levels);
-    let k = g.got;
-    let Got::Node(inc) = k else {
-        return g;
-    };
-    let q = g.p;
-    let g = declaration(tokens, errors, nodes, index, q, levels);
-    let k = g.got;
-    let Got::Node(stmt) = k else {
-        return g;
-    };
-    let q = g.p;
+    let (q, cond) = assignment(t, errors, nodes, p, levels)?;
+    let (q, _) = t.consume(errors, q, Token::SEMICOLON, Message::EXPECTED_SEMICOLON)?;
+    let (q, inc) = assignment(t, errors, nodes, q, levels)?;
+    let (q, stmt) = declaration(t, errors, nodes, q, levels)?;
     parser::make(
         nodes,
         q.leave_loop(),
@@ -435,73 +287,35 @@ fn for_c(
 
 #[cycle(grammar)]
 fn for_in(
-    tokens: &[u32],
+    t: &Tokens,
     errors: &mut [u32],
     nodes: &mut [u32],
-    index: &[u32],
     p: State,
     levels: u32,
     keyword: u32,
 ) -> Out
-    ensures { reply result.p result.got errors.new nodes.new ≡ run_at (indexed tokens.now index.now) levels (enhanced_for (indexed tokens.now index.now) keyword) p errors.old nodes.old }
+    ensures { answered result errors.new nodes.new ≡ run_at (view t.now) levels (enhanced_for (view t.now) keyword) p errors.old nodes.old }
 {
-    let g = pieces::names(tokens, nodes, index, p);
-    let k = g.got;
-    let Got::Node(ids) = k else {
-        return g;
-    };
-    let q = g.p;
-    let h = parser::consume(tokens, errors, index, q, Token::IN, 17);
-    let k = h.got;
-    let Got::Node(_) = k else {
-        return h;
-    };
-    let q = h.p;
-    let g = assignment(tokens, errors, nodes, index, q, levels);
-    let k = g.got;
-    let Got::Node(collection) = k else {
-        return g;
-    };
-    let q = g.p;
-    let stmt = declaration(tokens, errors, nodes, index, q, levels);
+    let (q, ids) = pieces::names(t, nodes, p)?;
+    let (q, _) = t.consume(errors, q, Token::IN, Message::EXPECTED_IN)?;
+    let (q, collection) = assignment(t, errors, nodes, q, levels)?;
+    let stmt = declaration(t, errors, nodes, q, levels);
     pieces::for_node(nodes, stmt, keyword, ids.node, collection.node)
 }
 
 #[cycle(grammar)]
-fn try_catch(
-    tokens: &[u32],
-    errors: &mut [u32],
-    nodes: &mut [u32],
-    index: &[u32],
-    p: State,
-    levels: u32,
-) -> Out
-    ensures { reply result.p result.got errors.new nodes.new ≡ run_at (indexed tokens.now index.now) levels (try_catch (indexed tokens.now index.now)) p errors.old nodes.old }
+fn try_catch(t: &Tokens, errors: &mut [u32], nodes: &mut [u32], p: State, levels: u32) -> Out
+    ensures { answered result errors.new nodes.new ≡ run_at (view t.now) levels (try_catch (view t.now)) p errors.old nodes.old }
 {
-    let g = declaration(tokens, errors, nodes, index, p, levels);
-    let k = g.got;
-    let Got::Node(tried) = k else {
-        return g;
-    };
-    let q = g.p;
-    let h = parser::consume(tokens, errors, index, q, Token::CATCH, 18);
-    let k = h.got;
-    let Got::Node(_) = k else {
-        return h;
-    };
-    let q = h.p;
-    let h = parser::require(tokens, errors, index, q, Token::IDENTIFIER, 5);
-    let k = h.got;
-    let Got::Node(name) = k else {
-        return h;
-    };
-    let q = h.p;
-    let g = declaration(tokens, errors, nodes, index, q, levels);
-    let k = g.got;
-    let Got::Node(caught) = k else {
-        return g;
-    };
-    let q = g.p;
+    let (q, tried) = declaration(t, errors, nodes, p, levels)?;
+    let (q, _) = t.consume(errors, q, Token::CATCH, Message::EXPECTED_CATCH)?;
+    let (q, name) = t.require(
+        errors,
+        q,
+        Token::IDENTIFIER,
+        Message::EXPECTED_VARIABLE_NAME,
+    )?;
+    let (q, caught) = declaration(t, errors, nodes, q, levels)?;
     parser::make(
         nodes,
         q,
@@ -520,144 +334,94 @@ fn try_catch(
 
 #[cycle(grammar)]
 fn if_stmt(
-    tokens: &[u32],
+    t: &Tokens,
     errors: &mut [u32],
     nodes: &mut [u32],
-    index: &[u32],
     p: State,
     levels: u32,
     keyword: u32,
 ) -> Out
-    ensures { reply result.p result.got errors.new nodes.new ≡ run_at (indexed tokens.now index.now) levels (if_stmt (indexed tokens.now index.now) keyword) p errors.old nodes.old }
+    ensures { answered result errors.new nodes.new ≡ run_at (view t.now) levels (if_stmt (view t.now) keyword) p errors.old nodes.old }
 {
-    let g = assignment(tokens, errors, nodes, index, p, levels);
-    let k = g.got;
-    let Got::Node(cond) = k else {
-        return g;
-    };
-    let q = g.p;
-    let g = parser::consume(tokens, errors, index, q, Token::LEFT_CURLY_BRACE, 6);
-    let k = g.got;
-    let Got::Node(_) = k else {
-        return g;
-    };
-    let q = g.p;
-    let g = block(tokens, errors, nodes, index, q, levels);
-    let k = g.got;
-    let Got::Node(stmts) = k else {
-        return g;
-    };
-    let q = g.p;
-    let g = elifs(tokens, errors, nodes, index, q, levels);
-    let k = g.got;
-    let Got::Node(e) = k else {
-        return g;
-    };
-    let q = g.p;
+    let (q, cond) = assignment(t, errors, nodes, p, levels)?;
+    let (q, _) = t.consume(
+        errors,
+        q,
+        Token::LEFT_CURLY_BRACE,
+        Message::EXPECTED_LEFT_CURLY,
+    )?;
+    let (q, stmts) = block(t, errors, nodes, q, levels)?;
+    let (q, e) = elifs(t, errors, nodes, q, levels)?;
     let at = q.current;
-    let Seen::At(i) = parser::matches(tokens, index, at, Token::ELSE) else {
+    let Some(i) = t.matches(at, Token::ELSE) else {
         return parser::make(
             nodes,
             q.looked(1),
             pieces::row(Node::IF, keyword, 0, 0, cond.node, stmts.node, e.node, 0),
         );
     };
-    let g = parser::consume(
-        tokens,
+    let (q, _) = t.consume(
         errors,
-        index,
         q.at_token(i, 1),
         Token::LEFT_CURLY_BRACE,
-        6,
-    );
-    let k = g.got;
-    let Got::Node(_) = k else {
-        return g;
-    };
-    let q = g.p;
-    let o = block(tokens, errors, nodes, index, q, levels);
+        Message::EXPECTED_LEFT_CURLY,
+    )?;
+    let o = block(t, errors, nodes, q, levels);
     pieces::if_node(nodes, o, keyword, cond.node, stmts.node, e.node)
 }
 
 #[cycle(grammar)]
-fn elifs(
-    tokens: &[u32],
-    errors: &mut [u32],
-    nodes: &mut [u32],
-    index: &[u32],
-    p: State,
-    levels: u32,
-) -> Out
-    ensures { reply result.p result.got errors.new nodes.new ≡ run_at (indexed tokens.now index.now) levels (elifs_from (indexed tokens.now index.now) (fuel (indexed tokens.now index.now)) 0 0) p errors.old nodes.old }
+fn elifs(t: &Tokens, errors: &mut [u32], nodes: &mut [u32], p: State, levels: u32) -> Out
+    ensures { answered result errors.new nodes.new ≡ run_at (view t.now) levels (elifs_from (view t.now) (fuel (view t.now)) 0 0) p errors.old nodes.old }
 {
     let mut s = p;
     let mut first = 0;
     let mut last = 0;
     loop {
         let at = s.current;
-        let Seen::At(i) = parser::matches(tokens, index, at, Token::ELIF) else {
+        let Some(i) = t.matches(at, Token::ELIF) else {
             return parser::gives(s.looked(1), first);
         };
-        let g = assignment(tokens, errors, nodes, index, s.at_token(i, 1), levels);
-        let k = g.got;
-        let Got::Node(cond) = k else {
-            return g;
-        };
-        let q = g.p;
-        let g = parser::consume(tokens, errors, index, q, Token::LEFT_CURLY_BRACE, 6);
-        let k = g.got;
-        let Got::Node(_) = k else {
-            return g;
-        };
-        let q = g.p;
-        let g = block(tokens, errors, nodes, index, q, levels);
-        let k = g.got;
-        let Got::Node(stmts) = k else {
-            return g;
-        };
-        let q = g.p;
-        let h = parser::make(
+        let (q, cond) = assignment(t, errors, nodes, s.at_token(i, 1), levels)?;
+        let (q, _) = t.consume(
+            errors,
+            q,
+            Token::LEFT_CURLY_BRACE,
+            Message::EXPECTED_LEFT_CURLY,
+        )?;
+        let (q, stmts) = block(t, errors, nodes, q, levels)?;
+        let (u, n) = parser::make(
             nodes,
             q,
             pieces::row(Node::ELIF, 0, 0, 0, cond.node, stmts.node, 0, 0),
-        );
-        let k = h.got;
-        let Got::Node(n) = k else {
-            return h;
-        };
+        )?;
         records::link(nodes, last, n.node);
         first = parser::first_of(first, n.node);
         last = n.node;
-        s = h.p;
+        s = u;
     }
 }
 
 #[cycle(grammar)]
 fn ret(
-    tokens: &[u32],
+    t: &Tokens,
     errors: &mut [u32],
     nodes: &mut [u32],
-    index: &[u32],
     p: State,
     levels: u32,
     keyword: u32,
 ) -> Out
-    ensures { reply result.p result.got errors.new nodes.new ≡ run_at (indexed tokens.now index.now) levels (specs.ret (indexed tokens.now index.now) keyword) p errors.old nodes.old }
+    ensures { answered result errors.new nodes.new ≡ run_at (view t.now) levels (specs.ret (view t.now) keyword) p errors.old nodes.old }
 {
     let at = p.current;
-    if let Seen::At(i) = parser::check(tokens, index, at, Token::NEWLINE) {
+    if let Some(i) = t.check(at, Token::NEWLINE) {
         return parser::make(
             nodes,
             p.at_token(i, 1),
             pieces::row(Node::RETURN, keyword, 0, 0, 0, 0, 0, 0),
         );
     }
-    let g = assignment(tokens, errors, nodes, index, p.looked(1), levels);
-    let k = g.got;
-    let Got::Node(e) = k else {
-        return g;
-    };
-    let q = g.p;
+    let (q, e) = assignment(t, errors, nodes, p.looked(1), levels)?;
     parser::make(
         nodes,
         q,
@@ -667,28 +431,17 @@ fn ret(
 
 #[cycle(grammar)]
 fn while_stmt(
-    tokens: &[u32],
+    t: &Tokens,
     errors: &mut [u32],
     nodes: &mut [u32],
-    index: &[u32],
     p: State,
     levels: u32,
     keyword: u32,
 ) -> Out
-    ensures { reply result.p result.got errors.new nodes.new ≡ run_at (indexed tokens.now index.now) levels (while_stmt (indexed tokens.now index.now) keyword) p errors.old nodes.old }
+    ensures { answered result errors.new nodes.new ≡ run_at (view t.now) levels (while_stmt (view t.now) keyword) p errors.old nodes.old }
 {
-    let g = assignment(tokens, errors, nodes, index, p.enter_loop(), levels);
-    let k = g.got;
-    let Got::Node(cond) = k else {
-        return g;
-    };
-    let q = g.p;
-    let g = declaration(tokens, errors, nodes, index, q, levels);
-    let k = g.got;
-    let Got::Node(stmt) = k else {
-        return g;
-    };
-    let q = g.p;
+    let (q, cond) = assignment(t, errors, nodes, p.enter_loop(), levels)?;
+    let (q, stmt) = declaration(t, errors, nodes, q, levels)?;
     parser::make(
         nodes,
         q.leave_loop(),
@@ -698,100 +451,80 @@ fn while_stmt(
 
 // `statement`: one look at the next token that is no Newline, then the tests in the Rust's order.
 #[cycle(grammar)]
-fn stmt(
-    tokens: &[u32],
-    errors: &mut [u32],
-    nodes: &mut [u32],
-    index: &[u32],
-    p: State,
-    levels: u32,
-) -> Out
-    ensures { reply result.p result.got errors.new nodes.new ≡ run_at (indexed tokens.now index.now) levels (specs.statement (indexed tokens.now index.now)) p errors.old nodes.old }
+fn stmt(t: &Tokens, errors: &mut [u32], nodes: &mut [u32], p: State, levels: u32) -> Out
+    ensures { answered result errors.new nodes.new ≡ run_at (view t.now) levels (specs.statement (view t.now)) p errors.old nodes.old }
 {
     let at = p.current;
-    let coming = parser::peek(tokens, index, at);
+    let coming = t.peek(at);
     let kind = coming.kind;
     let i = coming.past;
     if kind == Token::FOR {
-        return for_loop(tokens, errors, nodes, index, p.at_token(i, 1), levels, i);
+        return for_loop(t, errors, nodes, p.at_token(i, 1), levels, i);
     }
     if kind == Token::TRY {
-        return try_catch(tokens, errors, nodes, index, p.at_token(i, 2), levels);
+        return try_catch(t, errors, nodes, p.at_token(i, 2), levels);
     }
     if kind == Token::IF {
-        return if_stmt(tokens, errors, nodes, index, p.at_token(i, 3), levels, i);
+        return if_stmt(t, errors, nodes, p.at_token(i, 3), levels, i);
     }
     if kind == Token::RETURN {
-        return ret(tokens, errors, nodes, index, p.at_token(i, 4), levels, i);
+        return ret(t, errors, nodes, p.at_token(i, 4), levels, i);
     }
     if kind == Token::BREAK {
-        return pieces::jump(tokens, errors, nodes, p.at_token(i, 5), Node::BREAK, i);
+        return pieces::jump(t, errors, nodes, p.at_token(i, 5), Node::BREAK, i);
     }
     if kind == Token::CONTINUE {
-        return pieces::jump(tokens, errors, nodes, p.at_token(i, 6), Node::CONTINUE, i);
+        return pieces::jump(t, errors, nodes, p.at_token(i, 6), Node::CONTINUE, i);
     }
     if kind == Token::WHILE {
-        return while_stmt(tokens, errors, nodes, index, p.at_token(i, 7), levels, i);
+        return while_stmt(t, errors, nodes, p.at_token(i, 7), levels, i);
     }
     if kind == Token::LEFT_CURLY_BRACE {
-        let g = block(tokens, errors, nodes, index, p.at_token(i, 8), levels);
-        let k = g.got;
-        let Got::Node(b) = k else {
-            return g;
-        };
-        let q = g.p;
+        let (q, b) = block(t, errors, nodes, p.at_token(i, 8), levels)?;
         return parser::make(nodes, q, pieces::row(Node::BLOCK, 0, 0, 0, b.node, 0, 0, 0));
     }
-    let g = assignment(tokens, errors, nodes, index, p.looked(8), levels);
+    let g = assignment(t, errors, nodes, p.looked(8), levels);
     pieces::expression_stmt(nodes, g)
 }
 
 // `declaration`, without its newline test. It opens a level.
 #[cycle(grammar)]
-pub fn declaration(
-    tokens: &[u32],
-    errors: &mut [u32],
-    nodes: &mut [u32],
-    index: &[u32],
-    p: State,
-    levels: u32,
-) -> Out
-    ensures { reply result.p result.got errors.new nodes.new ≡ lower (indexed tokens.now index.now) levels Declaration p errors.old nodes.old }
+pub fn declaration(t: &Tokens, errors: &mut [u32], nodes: &mut [u32], p: State, levels: u32) -> Out
+    ensures { answered result errors.new nodes.new ≡ lower (view t.now) levels Declaration p errors.old nodes.old }
 {
     if levels == 0 {
-        return parser::stopped(p, Outcome::TooDeep as u32);
+        return parser::stops(p, Outcome::TooDeep);
     }
     let at = p.current;
-    let coming = parser::peek(tokens, index, at);
+    let coming = t.peek(at);
     let kind = coming.kind;
     let i = coming.past;
     if kind == Token::CLASS {
-        return class(tokens, errors, nodes, index, p.at_token(i, 1), levels - 1);
+        return class(t, errors, nodes, p.at_token(i, 1), levels - 1);
     }
     if kind == Token::FN {
-        return fn_stmt(tokens, errors, nodes, index, p.at_token(i, 2), levels - 1);
+        return fn_stmt(t, errors, nodes, p.at_token(i, 2), levels - 1);
     }
     if kind == Token::LET {
-        return let_stmt(tokens, errors, nodes, index, p.at_token(i, 3), levels - 1);
+        return let_stmt(t, errors, nodes, p.at_token(i, 3), levels - 1);
     }
-    stmt(tokens, errors, nodes, index, p.looked(3), levels - 1)
+    stmt(t, errors, nodes, p.looked(3), levels - 1)
 }
 
 // Up to the mark, or to what is no comma; the 256th argument of a call is message 27.
 #[cycle(grammar)]
 fn arguments(
-    tokens: &[u32],
+    t: &Tokens,
     errors: &mut [u32],
     nodes: &mut [u32],
-    index: &[u32],
     p: State,
     levels: u32,
     mark: u32,
 ) -> Out
-    ensures { reply result.p result.got errors.new nodes.new ≡ run_at (indexed tokens.now index.now) levels (specs.arguments (indexed tokens.now index.now) mark) p errors.old nodes.old }
+    ensures { answered result errors.new nodes.new ≡ run_at (view t.now) levels (specs.arguments (view t.now) mark) p errors.old nodes.old }
 {
     let at = p.current;
-    if let Seen::At(i) = parser::check(tokens, index, at, mark) {
+    if let Some(i) = t.check(at, mark) {
         return parser::gives(p.at_token(i, 1), 0);
     }
     let mut s = p.looked(1);
@@ -801,24 +534,19 @@ fn arguments(
     loop {
         if (mark == Token::RIGHT_PAREN) & (255 <= n) {
             let at = s.current;
-            return pieces::fatal(tokens, errors, s, 27, at);
+            return pieces::fatal(t, errors, s, Message::MAX_ARGUMENTS, at);
         }
-        let g = assignment(tokens, errors, nodes, index, s, levels);
-        let k = g.got;
-        let Got::Node(e) = k else {
-            return g;
-        };
+        let (u, e) = assignment(t, errors, nodes, s, levels)?;
         records::link(nodes, last, e.node);
         first = parser::first_of(first, e.node);
         last = e.node;
         n += 1;
-        let u = g.p;
         let at = u.current;
-        let Seen::At(i) = parser::matches(tokens, index, at, Token::COMMA) else {
+        let Some(i) = t.matches(at, Token::COMMA) else {
             return parser::gives(u.looked(1), first);
         };
         let v = u.at_token(i, 1);
-        if let Seen::At(j) = parser::check(tokens, index, i, mark) {
+        if let Some(j) = t.check(i, mark) {
             return parser::gives(v.at_token(j, 1), first);
         }
         s = v.looked(1);
@@ -827,48 +555,26 @@ fn arguments(
 
 // Keys and values in turn.
 #[cycle(grammar)]
-fn pairs(
-    tokens: &[u32],
-    errors: &mut [u32],
-    nodes: &mut [u32],
-    index: &[u32],
-    p: State,
-    levels: u32,
-) -> Out
-    ensures { reply result.p result.got errors.new nodes.new ≡ run_at (indexed tokens.now index.now) levels (dict_elements_from (indexed tokens.now index.now) (fuel (indexed tokens.now index.now)) 0 0) p errors.old nodes.old }
+fn pairs(t: &Tokens, errors: &mut [u32], nodes: &mut [u32], p: State, levels: u32) -> Out
+    ensures { answered result errors.new nodes.new ≡ run_at (view t.now) levels (dict_elements_from (view t.now) (fuel (view t.now)) 0 0) p errors.old nodes.old }
 {
     let mut s = p;
     let mut first = 0;
     let mut last = 0;
     loop {
         let at = s.current;
-        if let Seen::At(i) = parser::check(tokens, index, at, Token::RIGHT_CURLY_BRACE) {
+        if let Some(i) = t.check(at, Token::RIGHT_CURLY_BRACE) {
             return parser::gives(s.at_token(i, 1), first);
         }
-        let g = assignment(tokens, errors, nodes, index, s.looked(1), levels);
-        let k = g.got;
-        let Got::Node(key) = k else {
-            return g;
-        };
-        let q = g.p;
-        let h = parser::consume(tokens, errors, index, q, Token::COLON, 22);
-        let k = h.got;
-        let Got::Node(_) = k else {
-            return h;
-        };
-        let q = h.p;
-        let g = assignment(tokens, errors, nodes, index, q, levels);
-        let k = g.got;
-        let Got::Node(value) = k else {
-            return g;
-        };
-        let u = g.p;
+        let (q, key) = assignment(t, errors, nodes, s.looked(1), levels)?;
+        let (q, _) = t.consume(errors, q, Token::COLON, Message::EXPECTED_COLON_AFTER_KEY)?;
+        let (u, value) = assignment(t, errors, nodes, q, levels)?;
         records::link(nodes, last, key.node);
         records::link(nodes, key.node, value.node);
         first = parser::first_of(first, key.node);
         last = value.node;
         let at = u.current;
-        let Seen::At(i) = parser::matches(tokens, index, at, Token::COMMA) else {
+        let Some(i) = t.matches(at, Token::COMMA) else {
             return parser::gives(u.looked(1), first);
         };
         s = u.at_token(i, 1);
@@ -878,51 +584,32 @@ fn pairs(
 // A slice without its first part, after the first colon.
 #[cycle(grammar)]
 fn upto(
-    tokens: &[u32],
+    t: &Tokens,
     errors: &mut [u32],
     nodes: &mut [u32],
-    index: &[u32],
     p: State,
     levels: u32,
     object: Found,
     brace: u32,
     c: u32,
 ) -> Out
-    ensures { reply result.p result.got errors.new nodes.new ≡ run_at (indexed tokens.now index.now) levels (open_slice (indexed tokens.now index.now) object brace c) p errors.old nodes.old }
+    ensures { answered result errors.new nodes.new ≡ run_at (view t.now) levels (open_slice (view t.now) object brace c) p errors.old nodes.old }
 {
     let at = p.current;
-    if let Seen::At(d) = parser::matches(tokens, index, at, Token::COLON) {
-        let g = assignment(tokens, errors, nodes, index, p.at_token(d, 1), levels);
-        return pieces::step(tokens, errors, nodes, index, g, object, brace, 0, c, 0, d);
+    if let Some(d) = t.matches(at, Token::COLON) {
+        let g = assignment(t, errors, nodes, p.at_token(d, 1), levels);
+        return pieces::step(t, errors, nodes, g, object, brace, 0, c, 0, d);
     }
-    let g = assignment(tokens, errors, nodes, index, p.looked(1), levels);
-    let k = g.got;
-    let Got::Node(second) = k else {
-        return g;
-    };
-    let q = g.p;
+    let (q, second) = assignment(t, errors, nodes, p.looked(1), levels)?;
     let at = q.current;
-    if let Seen::At(d) = parser::matches(tokens, index, at, Token::COLON) {
-        let g = assignment(tokens, errors, nodes, index, q.at_token(d, 1), levels);
-        return pieces::step(
-            tokens,
-            errors,
-            nodes,
-            index,
-            g,
-            object,
-            brace,
-            0,
-            c,
-            second.node,
-            d,
-        );
+    if let Some(d) = t.matches(at, Token::COLON) {
+        let g = assignment(t, errors, nodes, q.at_token(d, 1), levels);
+        return pieces::step(t, errors, nodes, g, object, brace, 0, c, second.node, d);
     }
     pieces::close_access(
-        tokens,
+        t,
         errors,
         nodes,
-        index,
         q.looked(1),
         object,
         brace,
@@ -937,10 +624,9 @@ fn upto(
 // A slice with its first part, after the first colon.
 #[cycle(grammar)]
 fn slice(
-    tokens: &[u32],
+    t: &Tokens,
     errors: &mut [u32],
     nodes: &mut [u32],
-    index: &[u32],
     p: State,
     levels: u32,
     object: Found,
@@ -948,22 +634,19 @@ fn slice(
     first: u32,
     c: u32,
 ) -> Out
-    ensures { reply result.p result.got errors.new nodes.new ≡ run_at (indexed tokens.now index.now) levels (specs.slice (indexed tokens.now index.now) object brace first c) p errors.old nodes.old }
+    ensures { answered result errors.new nodes.new ≡ run_at (view t.now) levels (specs.slice (view t.now) object brace first c) p errors.old nodes.old }
 {
     let at = p.current;
-    if let Seen::At(d) = parser::matches(tokens, index, at, Token::COLON) {
-        let g = assignment(tokens, errors, nodes, index, p.at_token(d, 1), levels);
-        return pieces::step(
-            tokens, errors, nodes, index, g, object, brace, first, c, 0, d,
-        );
+    if let Some(d) = t.matches(at, Token::COLON) {
+        let g = assignment(t, errors, nodes, p.at_token(d, 1), levels);
+        return pieces::step(t, errors, nodes, g, object, brace, first, c, 0, d);
     }
     let u = p.looked(1);
-    if let Seen::At(i) = parser::check(tokens, index, at, Token::RIGHT_BRACE) {
+    if let Some(i) = t.check(at, Token::RIGHT_BRACE) {
         return pieces::close_access(
-            tokens,
+            t,
             errors,
             nodes,
-            index,
             u.at_token(i, 1),
             object,
             brace,
@@ -975,24 +658,16 @@ fn slice(
         );
     }
     let v = u.looked(1);
-    if parser::is_at_end(tokens, p) {
-        return pieces::close_access(
-            tokens, errors, nodes, index, v, object, brace, first, c, 0, 0, 0,
-        );
+    if t.is_at_end(p) {
+        return pieces::close_access(t, errors, nodes, v, object, brace, first, c, 0, 0, 0);
     }
-    let g = assignment(tokens, errors, nodes, index, v, levels);
-    let k = g.got;
-    let Got::Node(second) = k else {
-        return g;
-    };
-    let q = g.p;
+    let (q, second) = assignment(t, errors, nodes, v, levels)?;
     let at = q.current;
-    let Seen::At(d) = parser::matches(tokens, index, at, Token::COLON) else {
+    let Some(d) = t.matches(at, Token::COLON) else {
         return pieces::close_access(
-            tokens,
+            t,
             errors,
             nodes,
-            index,
             q.looked(1),
             object,
             brace,
@@ -1004,12 +679,11 @@ fn slice(
         );
     };
     let s = q.at_token(d, 1);
-    if let Seen::At(i) = parser::check(tokens, index, d, Token::RIGHT_BRACE) {
+    if let Some(i) = t.check(d, Token::RIGHT_BRACE) {
         return pieces::close_access(
-            tokens,
+            t,
             errors,
             nodes,
-            index,
             s.at_token(i, 1),
             object,
             brace,
@@ -1021,12 +695,11 @@ fn slice(
         );
     }
     let w = s.looked(1);
-    if parser::is_at_end(tokens, s) {
+    if t.is_at_end(s) {
         return pieces::close_access(
-            tokens,
+            t,
             errors,
             nodes,
-            index,
             w,
             object,
             brace,
@@ -1037,62 +710,33 @@ fn slice(
             0,
         );
     }
-    let g = assignment(tokens, errors, nodes, index, w, levels);
-    pieces::step(
-        tokens,
-        errors,
-        nodes,
-        index,
-        g,
-        object,
-        brace,
-        first,
-        c,
-        second.node,
-        d,
-    )
+    let g = assignment(t, errors, nodes, w, levels);
+    pieces::step(t, errors, nodes, g, object, brace, first, c, second.node, d)
 }
 
 #[cycle(grammar)]
 fn access(
-    tokens: &[u32],
+    t: &Tokens,
     errors: &mut [u32],
     nodes: &mut [u32],
-    index: &[u32],
     p: State,
     levels: u32,
     object: Found,
     brace: u32,
 ) -> Out
-    ensures { reply result.p result.got errors.new nodes.new ≡ run_at (indexed tokens.now index.now) levels (specs.access (indexed tokens.now index.now) object brace) p errors.old nodes.old }
+    ensures { answered result errors.new nodes.new ≡ run_at (view t.now) levels (specs.access (view t.now) object brace) p errors.old nodes.old }
 {
     let at = p.current;
-    if let Seen::At(c) = parser::matches(tokens, index, at, Token::COLON) {
-        return upto(
-            tokens,
-            errors,
-            nodes,
-            index,
-            p.at_token(c, 1),
-            levels,
-            object,
-            brace,
-            c,
-        );
+    if let Some(c) = t.matches(at, Token::COLON) {
+        return upto(t, errors, nodes, p.at_token(c, 1), levels, object, brace, c);
     }
-    let g = assignment(tokens, errors, nodes, index, p.looked(1), levels);
-    let k = g.got;
-    let Got::Node(first) = k else {
-        return g;
-    };
-    let q = g.p;
+    let (q, first) = assignment(t, errors, nodes, p.looked(1), levels)?;
     let at = q.current;
-    if let Seen::At(c) = parser::matches(tokens, index, at, Token::COLON) {
+    if let Some(c) = t.matches(at, Token::COLON) {
         return slice(
-            tokens,
+            t,
             errors,
             nodes,
-            index,
             q.at_token(c, 1),
             levels,
             object,
@@ -1102,10 +746,9 @@ fn access(
         );
     }
     pieces::close_access(
-        tokens,
+        t,
         errors,
         nodes,
-        index,
         q.looked(1),
         object,
         brace,
@@ -1118,18 +761,11 @@ fn access(
 }
 
 #[cycle(grammar)]
-fn primary(
-    tokens: &[u32],
-    errors: &mut [u32],
-    nodes: &mut [u32],
-    index: &[u32],
-    p: State,
-    levels: u32,
-) -> Out
-    ensures { reply result.p result.got errors.new nodes.new ≡ run_at (indexed tokens.now index.now) levels (specs.primary (indexed tokens.now index.now)) p errors.old nodes.old }
+fn primary(t: &Tokens, errors: &mut [u32], nodes: &mut [u32], p: State, levels: u32) -> Out
+    ensures { answered result errors.new nodes.new ≡ run_at (view t.now) levels (specs.primary (view t.now)) p errors.old nodes.old }
 {
     let at = p.current;
-    let coming = parser::peek(tokens, index, at);
+    let coming = t.peek(at);
     let kind = coming.kind;
     let j = coming.past;
     let n = pieces::literal_place(kind);
@@ -1144,32 +780,26 @@ fn primary(
         return pieces::variable(nodes, p.at_token(j, 6), j);
     }
     if kind == Token::LEFT_PAREN {
-        let g = assignment(tokens, errors, nodes, index, p.at_token(j, 7), levels);
-        let k = g.got;
-        let Got::Node(e) = k else {
-            return g;
-        };
-        let q = g.p;
-        return pieces::grouping(tokens, errors, nodes, index, q, e.node);
+        let (q, e) = assignment(t, errors, nodes, p.at_token(j, 7), levels)?;
+        return pieces::grouping(t, errors, nodes, q, e.node);
     }
     if kind == Token::LEFT_BRACE {
         let g = arguments(
-            tokens,
+            t,
             errors,
             nodes,
-            index,
             p.at_token(j, 8),
             levels,
             Token::RIGHT_BRACE,
         );
-        return pieces::list(tokens, errors, nodes, index, g);
+        return pieces::list(t, errors, nodes, g);
     }
     if kind == Token::LEFT_CURLY_BRACE {
-        let g = pairs(tokens, errors, nodes, index, p.at_token(j, 9), levels);
-        return pieces::dictionary(tokens, errors, nodes, index, g);
+        let g = pairs(t, errors, nodes, p.at_token(j, 9), levels);
+        return pieces::dictionary(t, errors, nodes, g);
     }
     if kind == Token::FN {
-        return fn_expr(tokens, errors, nodes, index, p.at_token(j, 10), levels);
+        return fn_expr(t, errors, nodes, p.at_token(j, 10), levels);
     }
     if kind == Token::THIS {
         return parser::make(
@@ -1179,35 +809,23 @@ fn primary(
         );
     }
     if kind == Token::SUPER {
-        return pieces::super_expr(tokens, errors, nodes, index, p.at_token(j, 12), j);
+        return pieces::super_expr(t, errors, nodes, p.at_token(j, 12), j);
     }
     let s = p.looked(12);
-    if let Seen::At(i) = parser::matches(tokens, index, at, Token::NEWLINE) {
+    if let Some(i) = t.matches(at, Token::NEWLINE) {
         return pieces::empty(nodes, s.at_token(i, 1));
     }
-    pieces::fatal(tokens, errors, s.looked(1), 28, at)
+    pieces::fatal(t, errors, s.looked(1), Message::UNDEFINED_EXPRESSION, at)
 }
 
 // Most expressions end with their `primary`; those leave before the loop.
 #[cycle(grammar)]
-fn call(
-    tokens: &[u32],
-    errors: &mut [u32],
-    nodes: &mut [u32],
-    index: &[u32],
-    p: State,
-    levels: u32,
-) -> Out
-    ensures { reply result.p result.got errors.new nodes.new ≡ run_at (indexed tokens.now index.now) levels (specs.call (indexed tokens.now index.now)) p errors.old nodes.old }
+fn call(t: &Tokens, errors: &mut [u32], nodes: &mut [u32], p: State, levels: u32) -> Out
+    ensures { answered result errors.new nodes.new ≡ run_at (view t.now) levels (specs.call (view t.now)) p errors.old nodes.old }
 {
-    let g = primary(tokens, errors, nodes, index, p, levels);
-    let k = g.got;
-    let Got::Node(first) = k else {
-        return pieces::passed(g);
-    };
-    let u = g.p;
+    let (u, first) = primary(t, errors, nodes, p, levels)?;
     let at = u.current;
-    let coming = parser::peek(tokens, index, at);
+    let coming = t.peek(at);
     if pieces::suffix_place(coming.kind) == 0 {
         return pieces::found(u.looked(3), first);
     }
@@ -1215,42 +833,29 @@ fn call(
     let mut q = u;
     loop {
         let at = q.current;
-        let coming = parser::peek(tokens, index, at);
+        let coming = t.peek(at);
         let kind = coming.kind;
         let j = coming.past;
         if kind == Token::LEFT_PAREN {
             let args = arguments(
-                tokens,
+                t,
                 errors,
                 nodes,
-                index,
                 q.at_token(j, 1),
                 levels,
                 Token::RIGHT_PAREN,
             );
-            let h = pieces::finish_call(tokens, errors, nodes, index, args, e.node);
-            let kh = h.got;
-            let Got::Node(n) = kh else {
-                return pieces::passed(h);
-            };
+            let (r, n) = pieces::finish_call(t, errors, nodes, args, e.node)?;
             e = n;
-            q = h.p;
+            q = r;
         } else if kind == Token::DOT {
-            let h = pieces::get(tokens, errors, nodes, index, q.at_token(j, 2), e.node);
-            let kh = h.got;
-            let Got::Node(n) = kh else {
-                return pieces::passed(h);
-            };
+            let (r, n) = pieces::get(t, errors, nodes, q.at_token(j, 2), e.node)?;
             e = n;
-            q = h.p;
+            q = r;
         } else if kind == Token::LEFT_BRACE {
-            let h = access(tokens, errors, nodes, index, q.at_token(j, 3), levels, e, j);
-            let kh = h.got;
-            let Got::Node(n) = kh else {
-                return pieces::passed(h);
-            };
+            let (r, n) = access(t, errors, nodes, q.at_token(j, 3), levels, e, j)?;
             e = n;
-            q = h.p;
+            q = r;
         } else {
             return pieces::found(q.looked(3), e);
         }
@@ -1258,121 +863,73 @@ fn call(
 }
 
 #[cycle(grammar)]
-fn unary(
-    tokens: &[u32],
-    errors: &mut [u32],
-    nodes: &mut [u32],
-    index: &[u32],
-    p: State,
-    levels: u32,
-) -> Out
-    ensures { reply result.p result.got errors.new nodes.new ≡ run_at (indexed tokens.now index.now) levels (specs.unary (indexed tokens.now index.now)) p errors.old nodes.old }
+fn unary(t: &Tokens, errors: &mut [u32], nodes: &mut [u32], p: State, levels: u32) -> Out
+    ensures { answered result errors.new nodes.new ≡ run_at (view t.now) levels (specs.unary (view t.now)) p errors.old nodes.old }
 {
     let at = p.current;
-    let coming = parser::peek(tokens, index, at);
+    let coming = t.peek(at);
     let kind = coming.kind;
     let n = pieces::prefix_place(kind);
     if n != 0 {
         let j = coming.past;
         let q = p.at_token(j, n);
         if levels == 0 {
-            return parser::stopped(q, Outcome::TooDeep as u32);
+            return parser::stops(q, Outcome::TooDeep);
         }
-        let g = unary(tokens, errors, nodes, index, q, levels - 1);
-        let k = g.got;
-        let Got::Node(e) = k else {
-            return pieces::passed(g);
-        };
-        let s = g.p;
+        let (s, e) = unary(t, errors, nodes, q, levels - 1)?;
         return parser::make(nodes, s, pieces::row(Node::UNARY, j, 0, 0, e.node, 0, 0, 0));
     }
-    call(tokens, errors, nodes, index, p.looked(2), levels)
+    call(t, errors, nodes, p.looked(2), levels)
 }
 
 // `or` to `power` after their first operand, without the loosest so many levels: the nested loops as one, from the tightest level to the loosest.
 #[cycle(grammar)]
 fn binary(
-    tokens: &[u32],
+    t: &Tokens,
     errors: &mut [u32],
     nodes: &mut [u32],
-    index: &[u32],
     operand: Out,
     levels: u32,
     looser: u32,
 ) -> Out
-    ensures { reply result.p result.got errors.new nodes.new ≡ and_then (reply operand.p operand.got errors.old nodes.old) λ g q E N. run_at (indexed tokens.now index.now) levels (behind_first (indexed tokens.now index.now) looser g) q E N }
+    ensures { answered result errors.new nodes.new ≡ and_then (answered operand errors.old nodes.old) λ g q E N. run_at (view t.now) levels (behind_first (view t.now) looser g) q E N }
 {
-    let k = operand.got;
-    let Got::Node(first) = k else {
-        return pieces::passed(operand);
-    };
-    let mut left = first;
-    let mut s = operand.p;
+    let (mut s, mut left) = operand?;
     let mut r: u32 = 7;
     loop {
         let at = s.current;
-        let tried = operators::turn_at(tokens, index, at, looser, r);
+        let tried = operators::turn_at(t, at, looser, r);
         let n = tried.looks;
-        let turn = tried.turn;
-        let Turn::Takes(rank, j) = turn else {
+        let Some((rank, j)) = tried.turn else {
             return pieces::found(s.looked(n), left);
         };
-        let g = unary(tokens, errors, nodes, index, s.at_token(j, n), levels);
-        let h = binary(tokens, errors, nodes, index, g, levels, rank);
-        let kh = h.got;
-        let Got::Node(right) = kh else {
-            return pieces::passed(h);
-        };
-        let q = h.p;
-        let m = parser::make(
+        let g = unary(t, errors, nodes, s.at_token(j, n), levels);
+        let (q, right) = binary(t, errors, nodes, g, levels, rank)?;
+        let (u, n) = parser::make(
             nodes,
             q,
             operators::operation(rank, left.node, j, right.node),
-        );
-        let km = m.got;
-        let Got::Node(n) = km else {
-            return pieces::passed(m);
-        };
+        )?;
         left = n;
-        s = m.p;
+        s = u;
         r = rank;
     }
 }
 
 // `assignment`: the value is read before the left side is judged. It opens a level.
 #[cycle(grammar)]
-fn assignment(
-    tokens: &[u32],
-    errors: &mut [u32],
-    nodes: &mut [u32],
-    index: &[u32],
-    p: State,
-    levels: u32,
-) -> Out
-    ensures { reply result.p result.got errors.new nodes.new ≡ lower (indexed tokens.now index.now) levels Assignment p errors.old nodes.old }
+fn assignment(t: &Tokens, errors: &mut [u32], nodes: &mut [u32], p: State, levels: u32) -> Out
+    ensures { answered result errors.new nodes.new ≡ lower (view t.now) levels Assignment p errors.old nodes.old }
 {
     if levels == 0 {
-        return parser::stopped(p, Outcome::TooDeep as u32);
+        return parser::stops(p, Outcome::TooDeep);
     }
-    let first = unary(tokens, errors, nodes, index, p, levels - 1);
-    let g = binary(tokens, errors, nodes, index, first, levels - 1, 0);
-    let k = g.got;
-    let Got::Node(left) = k else {
-        return pieces::passed(g);
-    };
-    let q = g.p;
+    let first = unary(t, errors, nodes, p, levels - 1);
+    let (q, left) = binary(t, errors, nodes, first, levels - 1, 0)?;
     let at = q.current;
-    let Seen::At(i) = parser::matches(tokens, index, at, Token::EQUAL) else {
-        return Out {
-            p: q.looked(1),
-            got: k,
-        };
+    let Some(i) = t.matches(at, Token::EQUAL) else {
+        return Ok((q.looked(1), left));
     };
-    let h = assignment(tokens, errors, nodes, index, q.at_token(i, 1), levels - 1);
-    let k = h.got;
-    let Got::Node(value) = k else {
-        return pieces::passed(h);
-    };
-    let s = h.p;
-    pieces::assigned(tokens, errors, nodes, s, left, value.node, i)
+    let (s, value) = assignment(t, errors, nodes, q.at_token(i, 1), levels - 1)?;
+    pieces::assigned(t, errors, nodes, s, left, value.node, i)
 }

@@ -1,7 +1,7 @@
 use Rattle.std.proofs.Common.{◌≡◌, ℕ, suc, ◌+◌, ◌-◌, ◌*◌, ◌≤◌, List, drop, length}
 use Rattle.parser.specs.declared.State.{State}
 use Rattle.parser.specs.declared.Found.{Found}
-use Rattle.parser.specs.Tokens.{View, indexed, count}
+use Rattle.parser.specs.Tokens.{View, view, count}
 use Rattle.parser.specs.Tables.{Reply}
 use Rattle.parser.specs.Programs.{run}
 use Rattle.parser.specs.Grammar.{lower, levels, arguments_from, block_from, call_from, elifs_from, methods_from, dict_elements_from}
@@ -102,10 +102,10 @@ pub record ArgumentsInv (T : View) (l mark : ℕ) (E₀ N₀ : List ℕ) (s₀ :
   pub nodes : length N ≡ length N₀
 
 abbrev pub invariant-arguments-loop-n : goal.invariant-arguments-loop-n
-invariant-arguments-loop-n l = ArgumentsInv (indexed l.tokens l.index) l.levels l.mark l.initial.errors l.initial.nodes l.initial.s l.errors l.nodes l.s l.first l.last l.n
+invariant-arguments-loop-n l = ArgumentsInv (view l.t) l.levels l.mark l.initial.errors l.initial.nodes l.initial.s l.errors l.nodes l.s l.first l.last l.n
 
 abbrev pub decreases-arguments-loop-n : goal.decreases-arguments-loop-n
-decreases-arguments-loop-n l = count l.tokens - l.s.current
+decreases-arguments-loop-n l = count l.t.table.now - l.s.current
 
 -- the turns of a binary operator's loop, with r the tightest level that is open
 abbrev pub operations_from : View → ℕ → ℕ → ℕ → ℕ → Found → State → List ℕ → List ℕ → Reply
@@ -121,10 +121,10 @@ pub record BinaryInv (T : View) (l looser : ℕ) (E₀ N₀ : List ℕ) (g₀ : 
   pub nodes : length N ≡ length N₀
 
 abbrev pub invariant-binary-loop-rank : goal.invariant-binary-loop-rank
-invariant-binary-loop-rank l = BinaryInv (indexed l.tokens l.index) l.levels l.looser l.initial.errors l.initial.nodes l.initial.left l.initial.s l.errors l.nodes l.left l.s l.r
+invariant-binary-loop-rank l = BinaryInv (view l.t) l.levels l.looser l.initial.errors l.initial.nodes l.initial.left l.initial.s l.errors l.nodes l.left l.s l.r
 
 abbrev pub decreases-binary-loop-rank : goal.decreases-binary-loop-rank
-decreases-binary-loop-rank l = count l.tokens - l.s.current
+decreases-binary-loop-rank l = count l.t.table.now - l.s.current
 
 -- the statements of a block
 pub record BlockInv (T : View) (l : ℕ) (E₀ N₀ : List ℕ) (s₀ : State) (E N : List ℕ) (s : State) (first last : ℕ) : Type 0 where
@@ -135,10 +135,10 @@ pub record BlockInv (T : View) (l : ℕ) (E₀ N₀ : List ℕ) (s₀ : State) (
   pub nodes : length N ≡ length N₀
 
 abbrev pub invariant-block-loop-i : goal.invariant-block-loop-i
-invariant-block-loop-i l = BlockInv (indexed l.tokens l.index) l.levels l.initial.errors l.initial.nodes l.initial.s l.errors l.nodes l.s l.first l.last
+invariant-block-loop-i l = BlockInv (view l.t) l.levels l.initial.errors l.initial.nodes l.initial.s l.errors l.nodes l.s l.first l.last
 
 abbrev pub decreases-block-loop-i : goal.decreases-block-loop-i
-decreases-block-loop-i l = count l.tokens - l.s.current
+decreases-block-loop-i l = count l.t.table.now - l.s.current
 
 -- what may stand behind an operand: calls, properties and places
 abbrev pub suffixes_from : View → ℕ → ℕ → Found → State → List ℕ → List ℕ → Reply
@@ -153,10 +153,10 @@ pub record CallInv (T : View) (l : ℕ) (E₀ N₀ : List ℕ) (e₀ : Found) (q
   pub nodes : length N ≡ length N₀
 
 abbrev pub invariant-call-loop-errors : goal.invariant-call-loop-errors
-invariant-call-loop-errors l = CallInv (indexed l.tokens l.index) l.levels l.initial.errors l.initial.nodes l.initial.e l.initial.q l.errors l.nodes l.e l.q
+invariant-call-loop-errors l = CallInv (view l.t) l.levels l.initial.errors l.initial.nodes l.initial.e l.initial.q l.errors l.nodes l.e l.q
 
 abbrev pub decreases-call-loop-errors : goal.decreases-call-loop-errors
-decreases-call-loop-errors l = count l.tokens - l.q.current
+decreases-call-loop-errors l = count l.t.table.now - l.q.current
 
 -- the branches of an `elif`
 pub record ElifsInv (T : View) (l : ℕ) (E₀ N₀ : List ℕ) (s₀ : State) (E N : List ℕ) (s : State) (first last : ℕ) : Type 0 where
@@ -167,10 +167,10 @@ pub record ElifsInv (T : View) (l : ℕ) (E₀ N₀ : List ℕ) (s₀ : State) (
   pub nodes : length N ≡ length N₀
 
 abbrev pub invariant-elifs-loop-i : goal.invariant-elifs-loop-i
-invariant-elifs-loop-i l = ElifsInv (indexed l.tokens l.index) l.levels l.initial.errors l.initial.nodes l.initial.s l.errors l.nodes l.s l.first l.last
+invariant-elifs-loop-i l = ElifsInv (view l.t) l.levels l.initial.errors l.initial.nodes l.initial.s l.errors l.nodes l.s l.first l.last
 
 abbrev pub decreases-elifs-loop-i : goal.decreases-elifs-loop-i
-decreases-elifs-loop-i l = count l.tokens - l.s.current
+decreases-elifs-loop-i l = count l.t.table.now - l.s.current
 
 -- the methods of a class
 pub record MethodsInv (T : View) (l name sup : ℕ) (E₀ N₀ : List ℕ) (s₀ : State) (E N : List ℕ) (s : State) (first last first_static last_static : ℕ) : Type 0 where
@@ -181,10 +181,10 @@ pub record MethodsInv (T : View) (l name sup : ℕ) (E₀ N₀ : List ℕ) (s₀
   pub nodes : length N ≡ length N₀
 
 abbrev pub invariant-methods-loop-i : goal.invariant-methods-loop-i
-invariant-methods-loop-i l = MethodsInv (indexed l.tokens l.index) l.levels l.name l.sup l.initial.errors l.initial.nodes l.initial.s l.errors l.nodes l.s l.first l.last l.first_static l.last_static
+invariant-methods-loop-i l = MethodsInv (view l.t) l.levels l.name l.sup l.initial.errors l.initial.nodes l.initial.s l.errors l.nodes l.s l.first l.last l.first_static l.last_static
 
 abbrev pub decreases-methods-loop-i : goal.decreases-methods-loop-i
-decreases-methods-loop-i l = count l.tokens - l.s.current
+decreases-methods-loop-i l = count l.t.table.now - l.s.current
 
 -- the pairs of a dictionary
 pub record PairsInv (T : View) (l : ℕ) (E₀ N₀ : List ℕ) (s₀ : State) (E N : List ℕ) (s : State) (first last : ℕ) : Type 0 where
@@ -195,7 +195,7 @@ pub record PairsInv (T : View) (l : ℕ) (E₀ N₀ : List ℕ) (s₀ : State) (
   pub nodes : length N ≡ length N₀
 
 abbrev pub invariant-pairs-loop-i : goal.invariant-pairs-loop-i
-invariant-pairs-loop-i l = PairsInv (indexed l.tokens l.index) l.levels l.initial.errors l.initial.nodes l.initial.s l.errors l.nodes l.s l.first l.last
+invariant-pairs-loop-i l = PairsInv (view l.t) l.levels l.initial.errors l.initial.nodes l.initial.s l.errors l.nodes l.s l.first l.last
 
 abbrev pub decreases-pairs-loop-i : goal.decreases-pairs-loop-i
-decreases-pairs-loop-i l = count l.tokens - l.s.current
+decreases-pairs-loop-i l = count l.t.table.now - l.s.current
