@@ -10,9 +10,9 @@ use Rattle.parser.specs.declared.Found.{Found}
 use Rattle.parser.specs.Tables.{Got}
 use Rattle.parser.specs.Tables.{Node, Stop}
 use Rattle.parser.specs.Tokens.{View, count, kind_at}
-use Rattle.parser.specs.Tables.{Reply, reply}
+use Rattle.parser.specs.Tables.{Reply, reply, fresh_state}
 use Rattle.parser.specs.Grammar.{first_of}
-use Rattle.parser.specs.Whole.{Parsed, Parsing, ends, if_end, or_ends, top_level, statements}
+use Rattle.parser.specs.Whole.{Parsed, Parsing, ends, if_end, or_ends, top_level, statements, parsed}
 use Rattle.progress.proofs.Moves.{Past}
 use Rattle.progress.proofs.Fuel.{top_moves}
 
@@ -42,8 +42,8 @@ module _ (T : View) (f first last : ℕ) (p : State) (E N : List ℕ) where
     statement_past n s = let a = subst (λ (r : Reply). Past p.current (suc p.current) (p.current < count T.tokens) r) (sym e ∙ ap (λ (g : Got). reply q g E' N') s) (top_moves T p E N) in (a.past.1, a.past.0)
 
 -- where a parsing comes to its end, this is its answer
-pub answered : (d : Parsed) (o first kept : ℕ) (p : State) (E N : List ℕ) → d ≡ ends o first kept p E N → Parsing d (record { outcome = o; errors = p.errors; nodes = kept; first = first; looks = p.looks }) E (zeroed node_width N kept)
-answered d o first kept p E N e =
+pub ends_so : (d : Parsed) (o first kept : ℕ) (p : State) (E N : List ℕ) → d ≡ ends o first kept p E N → Parsing d (record { outcome = o; errors = p.errors; nodes = kept; first = first; looks = p.looks }) E (zeroed node_width N kept)
+ends_so d o first kept p E N e =
     record {
       outcome_is = ap (λ (x : Parsed). x.outcome) (sym e);
       errors_are = ap (λ (x : Parsed). x.error_count) (sym e);
@@ -53,3 +53,8 @@ answered d o first kept p E N e =
       error_table_lem = ap (λ (x : Parsed). x.errors) (sym e);
       node_table = ap (λ (x : Parsed). x.nodes) (sym e);
     }
+
+-- at the loop's head what is left is the whole
+pub before_statements : (T : View) (rule recorded : ℕ) (s : State) (E N : List ℕ) (d : Parsed) → s ≡ fresh_state rule recorded → d ≡ statements (suc (count T.tokens)) T 0 0 s E N → parsed rule T recorded E N ≡ d
+unfolding parsed
+before_statements T rule recorded s E N d f e = rw (← f) (sym e)

@@ -1,43 +1,31 @@
-use Rattle.std.proofs.Common.{◌≡◌, suc, ◌-◌, sym, ap, ◌∙◌, arith}
-use Rattle.parser.specs.declared.State.{State}
-use Rattle.parser.specs.Tokens.{indexed, count}
-use Rattle.parser.specs.Whole.{parsed, statements}
-use Rattle.statements.proofs.TopLevel.{at_end_lem, stops, goes_on_lem, statement_past, answered}
+use Rattle.std.proofs.Common.{◌≡◌, suc, ◌-◌, refl, sym, ◌∙◌, arith}
+use Rattle.parser.specs.Tokens.{view}
+use Rattle.statements.proofs.TopLevel.{at_end_lem, stops, goes_on_lem, statement_past, ends_so, before_statements}
 use Rattle.statements.proofs.parse.Goals as goal
-
--- at the loop's head what is left is the whole
-head_at_end : (c : goal.After-slice_known-then-is_at_end-1)
-    → parsed c.args.rule (indexed c.args.tokens.now c.args.index.now) c.args.recorded c.args.errors.now c.args.nodes.now
-    ≡ statements (suc c.loop-nodes.invariant.fuel) (indexed c.args.tokens.now c.args.index.now) c.loop-nodes.first c.loop-nodes.last c.loop-nodes.s c.loop-nodes.errors c.loop-nodes.nodes
-unfolding parsed
-head_at_end c = ap (λ (s : State). statements (suc (count c.args.tokens.now)) (indexed c.args.tokens.now c.args.index.now) 0 0 s c.args.errors.now c.args.nodes.now) (sym c.fresh-s.ensures) ∙ sym c.loop-nodes.invariant.same
 
 pub returns-then-is_at_end : goal.returns-then-is_at_end
 returns-then-is_at_end c =
-    rw c.zero_rest.ensures (answered _ _ _ _ c.loop-nodes.s _ _ (head_at_end c ∙ at_end_lem (indexed c.args.tokens.now c.args.index.now) c.loop-nodes.invariant.fuel c.loop-nodes.first c.loop-nodes.last c.loop-nodes.s c.loop-nodes.errors c.loop-nodes.nodes (sym c.is_at_end.ensures ∙ c.if-is_at_end.true)))
+    let e = at_end_lem (view c.new-t.result) c.loop-t.invariant.fuel c.loop-t.first c.loop-t.last c.loop-t.s c.loop-t.errors c.loop-t.nodes (sym c.is_at_end.ensures ∙ c.if-is_at_end.true) in
+    rw (← c.new-t.ensures, c.zero_rest.ensures, c.into.ensures) (ends_so _ _ _ _ c.loop-t.s _ _ (before_statements _ _ _ _ _ _ _ c.fresh-s.ensures c.loop-t.invariant.same ∙ e))
 
-head_at_stop : (c : goal.After-slice_known-in-Stop-1)
-    → parsed c.args.rule (indexed c.args.tokens.now c.args.index.now) c.args.recorded c.args.errors.now c.args.nodes.now
-    ≡ statements (suc c.loop-nodes.invariant.fuel) (indexed c.args.tokens.now c.args.index.now) c.loop-nodes.first c.loop-nodes.last c.loop-nodes.s c.loop-nodes.errors c.loop-nodes.nodes
-unfolding parsed
-head_at_stop c = ap (λ (s : State). statements (suc (count c.args.tokens.now)) (indexed c.args.tokens.now c.args.index.now) 0 0 s c.args.errors.now c.args.nodes.now) (sym c.fresh-s.ensures) ∙ sym c.loop-nodes.invariant.same
+pub returns-in-Err : goal.returns-in-Err
+returns-in-Err c =
+    let e = stops (view c.new-t.result) c.loop-t.invariant.fuel c.loop-t.first c.loop-t.last c.loop-t.s c.loop-t.errors c.loop-t.nodes _ _ _ _ (sym c.is_at_end.ensures ∙ c.if-is_at_end.false) (rw c.in-Err.is at c.top_level.ensures) _ refl in
+    rw (← c.new-t.ensures, c.zero_rest-in-Err.ensures, c.into-in-Err.ensures) (ends_so _ _ _ _ c.in-Err.stop.p _ _ (before_statements _ _ _ _ _ _ _ c.fresh-s.ensures c.loop-t.invariant.same ∙ e))
 
-pub returns-in-Stop : goal.returns-in-Stop
-returns-in-Stop c =
-    rw c.zero_rest-in-Stop.ensures (answered _ _ _ _ c.top_level-g.result.p _ _ (head_at_stop c ∙ stops (indexed c.args.tokens.now c.args.index.now) c.loop-nodes.invariant.fuel c.loop-nodes.first c.loop-nodes.last c.loop-nodes.s c.loop-nodes.errors c.loop-nodes.nodes _ _ _ _ (sym c.is_at_end.ensures ∙ c.if-is_at_end.false) c.top_level-g.ensures _ c.in-Stop.is))
+pub loop-t-smaller : goal.loop-t-smaller
+loop-t-smaller c = let g = statement_past (view c.new-t.result) c.loop-t.invariant.fuel c.loop-t.first c.loop-t.last c.loop-t.s c.loop-t.errors c.loop-t.nodes _ _ _ _ (sym c.is_at_end.ensures ∙ c.if-is_at_end.false) (rw c.in-Ok.is at c.top_level.ensures) _ refl in omega arith
 
-pub loop-nodes-smaller : goal.loop-nodes-smaller
-loop-nodes-smaller c = let g = statement_past (indexed c.args.tokens.now c.args.index.now) c.loop-nodes.invariant.fuel c.loop-nodes.first c.loop-nodes.last c.loop-nodes.s c.loop-nodes.errors c.loop-nodes.nodes _ _ _ _ (sym c.is_at_end.ensures ∙ c.if-is_at_end.false) c.top_level-g.ensures _ c.in-Node.is in omega arith
-
-pub loop-nodes-preserved : goal.loop-nodes-preserved
-loop-nodes-preserved c =
-    let g = statement_past (indexed c.args.tokens.now c.args.index.now) c.loop-nodes.invariant.fuel c.loop-nodes.first c.loop-nodes.last c.loop-nodes.s c.loop-nodes.errors c.loop-nodes.nodes _ _ _ _ (sym c.is_at_end.ensures ∙ c.if-is_at_end.false) c.top_level-g.ensures _ c.in-Node.is in
-    let h = goes_on_lem (indexed c.args.tokens.now c.args.index.now) c.loop-nodes.invariant.fuel c.loop-nodes.first c.loop-nodes.last c.loop-nodes.s c.loop-nodes.errors c.loop-nodes.nodes _ _ _ _ (sym c.is_at_end.ensures ∙ c.if-is_at_end.false) c.top_level-g.ensures _ c.in-Node.is in
-    let f : suc (c.loop-nodes.invariant.fuel - 1) ≡ c.loop-nodes.invariant.fuel = omega (arith, c.loop-nodes.invariant.enough) in
+pub loop-t-preserved : goal.loop-t-preserved
+loop-t-preserved c =
+    let s = rw c.in-Ok.is at c.top_level.ensures in
+    let g = statement_past (view c.new-t.result) c.loop-t.invariant.fuel c.loop-t.first c.loop-t.last c.loop-t.s c.loop-t.errors c.loop-t.nodes _ _ _ _ (sym c.is_at_end.ensures ∙ c.if-is_at_end.false) s _ refl in
+    let h = goes_on_lem (view c.new-t.result) c.loop-t.invariant.fuel c.loop-t.first c.loop-t.last c.loop-t.s c.loop-t.errors c.loop-t.nodes _ _ _ _ (sym c.is_at_end.ensures ∙ c.if-is_at_end.false) s _ refl in
+    let f : suc (c.loop-t.invariant.fuel - 1) ≡ c.loop-t.invariant.fuel = omega (arith, c.loop-t.invariant.enough) in
     record {
-      fuel = c.loop-nodes.invariant.fuel - 1;
-      enough = omega (arith, c.loop-nodes.invariant.enough);
-      same = rw (f, c.first_of-first.ensures, c.link.ensures) (sym h ∙ c.loop-nodes.invariant.same);
-      errors = c.top_level-g.auto.errors ∙ c.loop-nodes.invariant.errors;
-      nodes = c.link.auto.nodes ∙ c.top_level-g.auto.nodes ∙ c.loop-nodes.invariant.nodes;
+      fuel = c.loop-t.invariant.fuel - 1;
+      enough = omega (arith, c.loop-t.invariant.enough);
+      same = rw (f, c.first_of-first.ensures, c.link.ensures) (sym h ∙ c.loop-t.invariant.same);
+      errors = c.top_level.auto.errors ∙ c.loop-t.invariant.errors;
+      nodes = c.link.auto.nodes ∙ c.top_level.auto.nodes ∙ c.loop-t.invariant.nodes;
     }

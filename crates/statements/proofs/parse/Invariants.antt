@@ -1,6 +1,6 @@
 use Rattle.std.proofs.Common.{◌≡◌, ℕ, suc, ◌-◌, ◌≤◌, List, length}
 use Rattle.parser.specs.declared.State.{State}
-use Rattle.parser.specs.Tokens.{View, indexed, count}
+use Rattle.parser.specs.Tokens.{View, view, count}
 use Rattle.parser.specs.Whole.{statements}
 use Rattle.statements.proofs.parse.Given as goal
 
@@ -12,8 +12,8 @@ pub record ParseInv (T : View) (E₀ N₀ : List ℕ) (s₀ : State) (E N : List
   pub errors : length E ≡ length E₀
   pub nodes : length N ≡ length N₀
 
-abbrev pub invariant-loop-nodes : goal.invariant-loop-nodes
-invariant-loop-nodes l = ParseInv (indexed l.tokens l.index) l.initial.errors l.initial.nodes l.initial.s l.errors l.nodes l.s l.first l.last
+abbrev pub invariant-loop-t : goal.invariant-loop-t
+invariant-loop-t l = ParseInv (view l.t) l.initial.errors l.initial.nodes l.initial.s l.errors l.nodes l.s l.first l.last
 
-abbrev pub decreases-loop-nodes : goal.decreases-loop-nodes
-decreases-loop-nodes l = count l.tokens - l.s.current
+abbrev pub decreases-loop-t : goal.decreases-loop-t
+decreases-loop-t l = count l.t.table.now - l.s.current
