@@ -3,7 +3,7 @@
 
 ghost use Rattle.std.specs.Prelude.{◌≡◌, eqb};
 ghost use Rattle.records.specs.Outcomes.{goes_on};
-ghost use Rattle.host.specs.Kept.{fresh, marked_as, behind, stopped_at};
+ghost use Rattle.host.specs.Kept.{fresh, state_of, marked_as, behind, stopped_at};
 ghost use Rattle.host.specs.Fits.{no_eof, only_eof, fits_in};
 
 use parser::State;
@@ -59,7 +59,7 @@ impl Parser {
         ensures { result ≡ marked_as 0 goes_on self }
     {
         self.ended = 0;
-        self.outcome = Outcome::GoesOn as u32;
+        self.outcome = Outcome::GoesOn.into();
         self
     }
 
@@ -93,6 +93,22 @@ impl Parser {
         self.errors = s.errors;
         self.looks = s.looks;
         self
+    }
+}
+
+// Where the reading is that the host keeps.
+impl From<Parser> for State {
+    ghost from_gives = { λ p s. s ≡ state_of p };
+
+    fn from(p: Parser) -> State {
+        State {
+            rule: p.rule,
+            current: p.current,
+            errors: p.errors,
+            nodes: p.nodes,
+            loops: p.loops,
+            looks: p.looks,
+        }
     }
 }
 

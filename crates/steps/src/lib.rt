@@ -2,11 +2,12 @@
 #![tactic(auto)]
 
 ghost use Rattle.std.specs.Prelude.{◌≡◌, List, ℕ};
+ghost use Rattle.records.specs.Outcomes.{outcome_number};
 ghost use Rattle.steps.specs.Steps.{left, leaving, refused_as, final, rest_of, begun, one_of, next_of};
 
 use entry::Answer;
 use host::Parser;
-use parser::Got;
+use parser::{State, Tokens};
 use records::Outcome;
 use token::Token;
 
@@ -36,13 +37,13 @@ fn leave(p: Parser) -> Stepped
 }
 
 // A refusal: the parser as it is, and an answer without counts.
-fn refuse(p: Parser, outcome: u32) -> Stepped
-    ensures { result ≡ refused_as outcome p }
+fn refuse(p: Parser, outcome: Outcome) -> Stepped
+    ensures { result ≡ refused_as (outcome_number outcome) p }
 {
     Stepped {
         parser: p,
         answer: Answer {
-            outcome,
+            outcome: outcome.into(),
             tokens: 0,
             errors: 0,
             nodes: 0,
@@ -53,56 +54,36 @@ fn refuse(p: Parser, outcome: u32) -> Stepped
 }
 
 // The final answer.
-fn finish(nodes: &mut [u32], p: Parser, outcome: u32) -> Stepped
-    ensures { (T E X : List ℕ) → left result T E nodes.new X ≡ final outcome p T E nodes.old X }
+fn finish(nodes: &mut [u32], p: Parser, outcome: Outcome) -> Stepped
+    ensures { (T E X : List ℕ) → left result T E nodes.new X ≡ final (outcome_number outcome) p T E nodes.old X }
 {
-    let kept = p.nodes;
-    records::zero_rest(nodes, kept);
-    let q = p.closed(outcome);
-    leave(q)
+    records::zero_rest(nodes, p.nodes);
+    leave(p.closed(outcome.into()))
 }
 
 // A token before EOF is left to be read, or the reading is at its end.
 fn rest(tokens: &[u32], nodes: &mut [u32], p: Parser) -> Stepped
     ensures { (E X : List ℕ) → left result tokens.now E nodes.new X ≡ rest_of tokens.now p E nodes.old X }
 {
-    let at = p.current;
-    if parser::kind_at(tokens, at) == Token::EOF {
-        return finish(nodes, p, Outcome::Ended as u32);
+    if parser::kind_at(tokens, p.current) == Token::EOF {
+        return finish(nodes, p, Outcome::Ended);
     }
-    let q = p.going_on();
-    leave(q)
+    leave(p.going_on())
 }
 
 // One top-level statement, by the reader that `parse` uses too.
 fn one(tokens: &[u32], errors: &mut [u32], nodes: &mut [u32], index: &[u32], p: Parser) -> Stepped
     ensures { left result tokens.now errors.new nodes.new index.now ≡ one_of tokens.now p errors.old nodes.old index.now }
 {
-    let at = p.current;
-    if parser::kind_at(tokens, at) == Token::EOF {
-        return finish(nodes, p, Outcome::Ended as u32);
+    if parser::kind_at(tokens, p.current) == Token::EOF {
+        return finish(nodes, p, Outcome::Ended);
     }
-    let s = parser::State {
-        rule: p.rule,
-        current: p.current,
-        errors: p.errors,
-        nodes: p.nodes,
-        loops: p.loops,
-        looks: p.looks,
-    };
-    let g = statements::top_level(tokens, errors, nodes, index, s);
-    let k = g.got;
-    let u = g.p;
-    match k {
-        Got::Stop(o) => {
-            let q = p.stopped(u);
-            finish(nodes, q, o)
-        }
-        Got::Node(n) => {
-            let last = p.last;
-            records::link(nodes, last, n.node);
-            let q = p.behind(u, n.node);
-            rest(tokens, nodes, q)
+    let t = Tokens::new(tokens, index);
+    match statements::top_level(&t, errors, nodes, State::from(p)) {
+        Err(stop) => finish(nodes, p.stopped(stop.p), stop.outcome),
+        Ok((u, n)) => {
+            records::link(nodes, p.last, n.node);
+            rest(tokens, nodes, p.behind(u, n.node))
         }
     }
 }
@@ -123,15 +104,14 @@ pub fn start(
         × (index.new ≡ (begun source.now tokens.old errors.old nodes.old index.old p).index) }
 {
     if !rules::is_known(p.rule) {
-        return refuse(p, Outcome::WrongRule as u32);
+        return refuse(p, Outcome::WrongRule);
     }
     let d = entry::enter(p.rule, p.way, source, tokens, errors, nodes, index);
     let q = p.fresh(d.tokens, d.errors);
     if d.outcome == Outcome::Ended as u32 {
         return rest(tokens, nodes, q);
     }
-    let ended = q.closed(d.outcome);
-    leave(ended)
+    leave(q.closed(d.outcome))
 }
 
 // The core of `read`: the final answer once more, 18, 13, or one statement. The source is not looked at again.
@@ -149,14 +129,14 @@ pub fn step(
         × (nodes.new ≡ (next_of tokens.old errors.old nodes.old index.old p).nodes)
         × (index.new ≡ (next_of tokens.old errors.old nodes.old index.old p).index) }
 {
-    if p.is_open() {
-        if host::fits(tokens, errors, nodes, index, p) {
-            if rules::is_known(p.rule) {
-                return one(tokens, errors, nodes, index, p);
-            }
-            return refuse(p, Outcome::WrongRule as u32);
-        }
-        return refuse(p, Outcome::DoesNotFit as u32);
+    if !p.is_open() {
+        return leave(p);
     }
-    leave(p)
+    if !host::fits(tokens, errors, nodes, index, p) {
+        return refuse(p, Outcome::DoesNotFit);
+    }
+    if !rules::is_known(p.rule) {
+        return refuse(p, Outcome::WrongRule);
+    }
+    one(tokens, errors, nodes, index, p)
 }

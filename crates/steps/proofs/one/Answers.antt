@@ -1,4 +1,4 @@
-use Rattle.std.proofs.Common.{sym, ◌∙◌}
+use Rattle.std.proofs.Common.{refl, sym, ◌∙◌}
 use Rattle.steps.proofs.Cases.{one_ends, one_stops, one_linked}
 use Rattle.steps.proofs.one.Goals as goal
 
@@ -7,12 +7,12 @@ returns-then-kind_at-eq-EOF c =
     let a = c.args in
     c.finish.ensures a.tokens.now a.errors.now a.index.now ∙ sym (one_ends a.tokens.now a.p a.errors.now a.nodes.now a.index.now _ c.kind_at.ensures c.if-kind_at-eq-EOF.true)
 
-pub returns-in-Stop : goal.returns-in-Stop
-returns-in-Stop c =
+pub returns-in-Err : goal.returns-in-Err
+returns-in-Err c =
     let a = c.args in
-    c.finish-in-Stop.ensures a.tokens.now _ a.index.now ∙ one_stops a.tokens.now a.p a.errors.now a.nodes.now a.index.now _ c.kind_at.ensures c.if-kind_at-eq-EOF.false _ _ _ _ c.top_level-g.ensures _ c.in-Stop.is _ c.stopped-q.ensures
+    c.finish-in-Err.ensures a.tokens.now _ a.index.now ∙ one_stops a.tokens.now a.p a.errors.now a.nodes.now a.index.now _ c.kind_at.ensures c.if-kind_at-eq-EOF.false _ _ _ _ (rw (c.in-Err.is, c.new-t.ensures, c.from.ensures) at c.top_level.ensures) _ refl _ c.stopped.ensures
 
-pub returns-in-Node : goal.returns-in-Node
-returns-in-Node c =
+pub returns-in-Ok : goal.returns-in-Ok
+returns-in-Ok c =
     let a = c.args in
-    c.rest.ensures _ a.index.now ∙ one_linked a.tokens.now a.p a.errors.now a.nodes.now a.index.now _ c.kind_at.ensures c.if-kind_at-eq-EOF.false _ _ _ _ c.top_level-g.ensures _ c.in-Node.is _ c.behind-q.ensures _ c.link.ensures
+    c.rest.ensures _ a.index.now ∙ one_linked a.tokens.now a.p a.errors.now a.nodes.now a.index.now _ c.kind_at.ensures c.if-kind_at-eq-EOF.false _ _ _ _ (rw (c.in-Ok.is, c.new-t.ensures, c.from.ensures) at c.top_level.ensures) _ refl _ c.behind.ensures _ c.link.ensures

@@ -8,12 +8,12 @@ returns-then-not-is_known c =
     let a = c.args in
     parts _ _ (begun_refuses a.source.now a.tokens.now a.errors.now a.nodes.now a.index.now a.p (sym c.is_known.ensures ∙ c.if-not-is_known.true) _ c.refuse.ensures)
 
-pub returns-then-d-eq-ENDED : goal.returns-then-d-eq-ENDED
-returns-then-d-eq-ENDED c =
+pub returns-then-d : goal.returns-then-d
+returns-then-d c =
     let a = c.args in
-    parts _ _ (c.rest.ensures _ _ ∙ begun_reads a.source.now a.tokens.now a.errors.now a.nodes.now a.index.now a.p (sym c.is_known.ensures ∙ c.if-not-is_known.false) _ _ _ _ _ c.enter-d.ensures _ c.fresh-q.ensures c.if-d-eq-ENDED.true)
+    parts _ _ (c.rest.ensures _ _ ∙ begun_reads a.source.now a.tokens.now a.errors.now a.nodes.now a.index.now a.p (sym c.is_known.ensures ∙ c.if-not-is_known.false) _ _ _ _ _ c.enter-d.ensures _ c.fresh-q.ensures c.if-d.true)
 
 pub returns : goal.returns
 returns c =
     let a = c.args in
-    parts _ _ (begun_ends a.source.now a.tokens.now a.errors.now a.nodes.now a.index.now a.p (sym c.is_known.ensures ∙ c.if-not-is_known.false) _ _ _ _ _ c.enter-d.ensures _ c.fresh-q.ensures c.if-d-eq-ENDED.false _ (c.leave.ensures ∙ ap leaving c.closed-ended.ensures))
+    parts _ _ (begun_ends a.source.now a.tokens.now a.errors.now a.nodes.now a.index.now a.p (sym c.is_known.ensures ∙ c.if-not-is_known.false) _ _ _ _ _ c.enter-d.ensures _ c.fresh-q.ensures c.if-d.false _ (c.leave.ensures ∙ ap leaving c.closed.ensures))
