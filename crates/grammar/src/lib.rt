@@ -12,6 +12,7 @@ ghost use Rattle.pieces.specs.Pieces.{run_at, end_class};
 ghost use Rattle.operators.specs.Operators.{behind_first};
 
 use parser::{Found, Out, State, Tokens};
+use pieces::Access;
 use records::{Message, Node, Outcome};
 use token::Token;
 
@@ -595,30 +596,19 @@ fn upto(
 ) -> Out
     ensures { answered result errors.new nodes.new ≡ run_at (view t.now) levels (open_slice (view t.now) object brace c) p errors.old nodes.old }
 {
+    let from = Access::new(object, brace, 0, c);
     let at = p.current;
     if let Some(d) = t.matches(at, Token::COLON) {
         let g = assignment(t, errors, nodes, p.at_token(d, 1), levels);
-        return pieces::step(t, errors, nodes, g, object, brace, 0, c, 0, d);
+        return pieces::step(t, errors, nodes, g, from.and(0, d));
     }
     let (q, second) = assignment(t, errors, nodes, p.looked(1), levels)?;
     let at = q.current;
     if let Some(d) = t.matches(at, Token::COLON) {
         let g = assignment(t, errors, nodes, q.at_token(d, 1), levels);
-        return pieces::step(t, errors, nodes, g, object, brace, 0, c, second.node, d);
+        return pieces::step(t, errors, nodes, g, from.and(second.node, d));
     }
-    pieces::close_access(
-        t,
-        errors,
-        nodes,
-        q.looked(1),
-        object,
-        brace,
-        0,
-        c,
-        second.node,
-        0,
-        0,
-    )
+    pieces::close_access(t, errors, nodes, q.looked(1), from.and(second.node, 0))
 }
 
 // A slice with its first part, after the first colon.
@@ -636,82 +626,36 @@ fn slice(
 ) -> Out
     ensures { answered result errors.new nodes.new ≡ run_at (view t.now) levels (specs.slice (view t.now) object brace first c) p errors.old nodes.old }
 {
+    let from = Access::new(object, brace, first, c);
     let at = p.current;
     if let Some(d) = t.matches(at, Token::COLON) {
         let g = assignment(t, errors, nodes, p.at_token(d, 1), levels);
-        return pieces::step(t, errors, nodes, g, object, brace, first, c, 0, d);
+        return pieces::step(t, errors, nodes, g, from.and(0, d));
     }
     let u = p.looked(1);
     if let Some(i) = t.check(at, Token::RIGHT_BRACE) {
-        return pieces::close_access(
-            t,
-            errors,
-            nodes,
-            u.at_token(i, 1),
-            object,
-            brace,
-            first,
-            c,
-            0,
-            0,
-            0,
-        );
+        return pieces::close_access(t, errors, nodes, u.at_token(i, 1), from);
     }
     let v = u.looked(1);
     if t.is_at_end(p) {
-        return pieces::close_access(t, errors, nodes, v, object, brace, first, c, 0, 0, 0);
+        return pieces::close_access(t, errors, nodes, v, from);
     }
     let (q, second) = assignment(t, errors, nodes, v, levels)?;
     let at = q.current;
     let Some(d) = t.matches(at, Token::COLON) else {
-        return pieces::close_access(
-            t,
-            errors,
-            nodes,
-            q.looked(1),
-            object,
-            brace,
-            first,
-            c,
-            second.node,
-            0,
-            0,
-        );
+        return pieces::close_access(t, errors, nodes, q.looked(1), from.and(second.node, 0));
     };
+    let upto = from.and(second.node, d);
     let s = q.at_token(d, 1);
     if let Some(i) = t.check(d, Token::RIGHT_BRACE) {
-        return pieces::close_access(
-            t,
-            errors,
-            nodes,
-            s.at_token(i, 1),
-            object,
-            brace,
-            first,
-            c,
-            second.node,
-            d,
-            0,
-        );
+        return pieces::close_access(t, errors, nodes, s.at_token(i, 1), upto);
     }
     let w = s.looked(1);
     if t.is_at_end(s) {
-        return pieces::close_access(
-            t,
-            errors,
-            nodes,
-            w,
-            object,
-            brace,
-            first,
-            c,
-            second.node,
-            d,
-            0,
-        );
+        return pieces::close_access(t, errors, nodes, w, upto);
     }
     let g = assignment(t, errors, nodes, w, levels);
-    pieces::step(t, errors, nodes, g, object, brace, first, c, second.node, d)
+    pieces::step(t, errors, nodes, g, upto)
 }
 
 #[cycle(grammar)]
@@ -731,33 +675,14 @@ fn access(
         return upto(t, errors, nodes, p.at_token(c, 1), levels, object, brace, c);
     }
     let (q, first) = assignment(t, errors, nodes, p.looked(1), levels)?;
+    let first = first.node;
     let at = q.current;
     if let Some(c) = t.matches(at, Token::COLON) {
-        return slice(
-            t,
-            errors,
-            nodes,
-            q.at_token(c, 1),
-            levels,
-            object,
-            brace,
-            first.node,
-            c,
-        );
+        let s = q.at_token(c, 1);
+        return slice(t, errors, nodes, s, levels, object, brace, first, c);
     }
-    pieces::close_access(
-        t,
-        errors,
-        nodes,
-        q.looked(1),
-        object,
-        brace,
-        first.node,
-        0,
-        0,
-        0,
-        0,
-    )
+    let a = Access::new(object, brace, first, 0);
+    pieces::close_access(t, errors, nodes, q.looked(1), a)
 }
 
 #[cycle(grammar)]

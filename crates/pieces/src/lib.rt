@@ -308,21 +308,49 @@ pub fn dictionary(t: &Tokens, errors: &mut [u32], nodes: &mut [u32], elements: O
     )
 }
 
+// The parts of an access: the object, the token of its opening brace, and up to three parts with the tokens of the colons between them; 0 for what is not there.
+#[derive(Clone, Copy)]
+pub struct Access {
+    pub object: Found,
+    pub brace: u32,
+    pub first: u32,
+    pub first_colon: u32,
+    pub second: u32,
+    pub second_colon: u32,
+    pub third: u32,
+}
+
+impl Access {
+    // The first part and the colon after it.
+    pub fn new(object: Found, brace: u32, first: u32, first_colon: u32) -> Self
+        ensures { result ≡ record { object = object; brace = brace; first = first; first_colon = first_colon; second = 0; second_colon = 0; third = 0 } }
+    {
+        Access {
+            object,
+            brace,
+            first,
+            first_colon,
+            second: 0,
+            second_colon: 0,
+            third: 0,
+        }
+    }
+
+    // The second part and the colon after it.
+    pub fn and(self, second: u32, second_colon: u32) -> Self
+        ensures { result ≡ record { object = self.object; brace = self.brace; first = self.first; first_colon = self.first_colon; second = second; second_colon = second_colon; third = self.third } }
+    {
+        Access {
+            second,
+            second_colon,
+            ..self
+        }
+    }
+}
+
 // The closing mark and the node of an access.
-pub fn close_access(
-    t: &Tokens,
-    errors: &mut [u32],
-    nodes: &mut [u32],
-    p: State,
-    object: Found,
-    brace: u32,
-    first: u32,
-    c: u32,
-    second: u32,
-    d: u32,
-    third: u32,
-) -> Out
-    ensures { (low : Which → Reader) → answered result errors.new nodes.new ≡ run (view t.now) low (closed (view t.now) object brace first c second d third) p errors.old nodes.old }
+pub fn close_access(t: &Tokens, errors: &mut [u32], nodes: &mut [u32], p: State, a: Access) -> Out
+    ensures { (low : Which → Reader) → answered result errors.new nodes.new ≡ run (view t.now) low (closed (view t.now) a.object a.brace a.first a.first_colon a.second a.second_colon a.third) p errors.old nodes.old }
 {
     let (q, _) = t.consume(
         errors,
@@ -333,31 +361,27 @@ pub fn close_access(
     let (q, n) = parser::make(
         nodes,
         q,
-        row(Node::ACCESS, brace, c, d, object.node, first, second, third),
+        row(
+            Node::ACCESS,
+            a.brace,
+            a.first_colon,
+            a.second_colon,
+            a.object.node,
+            a.first,
+            a.second,
+            a.third,
+        ),
     )?;
-    let f = object.form;
-    gives_form(q, n.node, form_through(f), n.node)
+    gives_form(q, n.node, form_through(a.object.form), n.node)
 }
 
 // The last part of a slice, after its expression.
-pub fn step(
-    t: &Tokens,
-    errors: &mut [u32],
-    nodes: &mut [u32],
-    third: Out,
-    object: Found,
-    brace: u32,
-    first: u32,
-    c: u32,
-    second: u32,
-    d: u32,
-) -> Out
-    ensures { (low : Which → Reader) → answered result errors.new nodes.new ≡ and_then (answered third errors.old nodes.old) λ e q E N. run (view t.now) low (closed (view t.now) object brace first c second d e.node) q E N }
+pub fn step(t: &Tokens, errors: &mut [u32], nodes: &mut [u32], third: Out, a: Access) -> Out
+    ensures { (low : Which → Reader) → answered result errors.new nodes.new ≡ and_then (answered third errors.old nodes.old) λ e q E N. run (view t.now) low (closed (view t.now) a.object a.brace a.first a.first_colon a.second a.second_colon e.node) q E N }
 {
     let (q, e) = third?;
-    close_access(
-        t, errors, nodes, q, object, brace, first, c, second, d, e.node,
-    )
+    let third = e.node;
+    close_access(t, errors, nodes, q, Access { third, ..a })
 }
 
 pub fn super_expr(t: &Tokens, errors: &mut [u32], nodes: &mut [u32], p: State, keyword: u32) -> Out

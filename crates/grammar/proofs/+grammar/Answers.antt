@@ -36,11 +36,11 @@ access-returns-in_err-q t c = rw (given_up _ _ c.from_residual.ensures.1) (rw (�
 
 pub access-returns-in-Some-matches : goal.access-returns-in-Some-matches
 unfolding run access
-access-returns-in-Some-matches t c = rw (← c.matches.ensures, c.in_default.is, ← c.looked.ensures) (rw (← c.assignment.ensures, c.in_ok-q.was, ← c.matches-2.ensures) (rw c.in-Some-matches.is (rw c.at_token-in-Some-matches.ensures at c.slice.ensures)))
+access-returns-in-Some-matches t c = rw (← c.matches.ensures, c.in_default.is, ← c.looked.ensures) (rw (← c.assignment.ensures, c.in_ok-q.was, ← c.matches-2.ensures) (rw c.in-Some-matches.is (rw c.at_token-s.ensures at c.slice.ensures)))
 
 pub access-returns : goal.access-returns
 unfolding run access
-access-returns t c = rw (← c.matches.ensures, c.in_default.is, ← c.looked.ensures) (rw (← c.assignment.ensures, c.in_ok-q.was, ← c.matches-2.ensures) (rw (c.in_default-matches.is, ← c.looked-2.ensures, ← c.close_access.ensures (lower (view c.args.t.now) c.args.levels))))
+access-returns t c = rw (← c.matches.ensures, c.in_default.is, ← c.looked.ensures) (rw (← c.assignment.ensures, c.in_ok-q.was, ← c.matches-2.ensures) (rw (c.in_default-matches.is, ← c.looked-2.ensures, ← (rw (c.new-a.ensures) at (c.close_access.ensures (lower (view c.args.t.now) c.args.levels))))))
 
 -- ---- arguments
 pub arguments-returns-in-Some : goal.arguments-returns-in-Some
@@ -778,15 +778,15 @@ ret-returns t c = rw (← c.check.ensures, c.in_default.is, ← c.looked.ensures
 -- ---- slice
 pub slice-returns-in-Some : goal.slice-returns-in-Some
 unfolding run
-slice-returns-in-Some t c = rw (← c.matches.ensures, c.in-Some.is, ← c.at_token.ensures) (rw (← c.assignment-g.ensures, ← c.step.ensures (lower (view c.args.t.now) c.args.levels)))
+slice-returns-in-Some t c = rw (← c.matches.ensures, c.in-Some.is, ← c.at_token.ensures) (rw (← c.assignment-g.ensures, ← (rw (c.and.ensures, c.new-from.ensures) at (c.step.ensures (lower (view c.args.t.now) c.args.levels)))))
 
 pub slice-returns-in-Some-check : goal.slice-returns-in-Some-check
 unfolding run
-slice-returns-in-Some-check t c = rw (← c.matches.ensures, c.in_default.is, ← c.check.ensures) (rw c.in-Some-check.is (rw ((rw c.looked-u.ensures at c.at_token-in-Some-check.ensures)) at (c.close_access.ensures (lower (view c.args.t.now) c.args.levels))))
+slice-returns-in-Some-check t c = rw (← c.matches.ensures, c.in_default.is, ← c.check.ensures) (rw c.in-Some-check.is (rw (c.new-from.ensures, rw c.looked-u.ensures at c.at_token-in-Some-check.ensures) at (c.close_access.ensures (lower (view c.args.t.now) c.args.levels))))
 
 pub slice-returns-then-is_at_end : goal.slice-returns-then-is_at_end
 unfolding run
-slice-returns-then-is_at_end t c = rw (← c.matches.ensures, c.in_default.is, ← c.check.ensures) (rw (c.in_default-check.is, ← (rw c.looked-u.ensures at c.looked-v.ensures), ← c.is_at_end.ensures) (rw (c.if-is_at_end.true, ← c.close_access-then-is_at_end.ensures (lower (view c.args.t.now) c.args.levels))))
+slice-returns-then-is_at_end t c = rw (← c.matches.ensures, c.in_default.is, ← c.check.ensures) (rw (c.in_default-check.is, ← (rw c.looked-u.ensures at c.looked-v.ensures), ← c.is_at_end.ensures) (rw (c.if-is_at_end.true, ← (rw (c.new-from.ensures) at (c.close_access-then-is_at_end.ensures (lower (view c.args.t.now) c.args.levels))))))
 
 pub slice-returns-in_err-q : goal.slice-returns-in_err-q
 unfolding run
@@ -794,19 +794,19 @@ slice-returns-in_err-q t c = rw (given_up _ _ c.from_residual.ensures.1) (rw (�
 
 pub slice-returns-in_default-matches : goal.slice-returns-in_default-matches
 unfolding run
-slice-returns-in_default-matches t c = rw (← c.matches.ensures, c.in_default.is, ← c.check.ensures) (rw (c.in_default-check.is, ← (rw c.looked-u.ensures at c.looked-v.ensures), ← c.is_at_end.ensures) (rw (c.if-is_at_end.false, ← c.assignment.ensures, c.in_ok-q.was) (rw (← c.matches-2.ensures, c.in_default-matches.is, ← c.looked.ensures) (rw (← c.close_access-in_default-matches.ensures (lower (view c.args.t.now) c.args.levels))))))
+slice-returns-in_default-matches t c = rw (← c.matches.ensures, c.in_default.is, ← c.check.ensures) (rw (c.in_default-check.is, ← (rw c.looked-u.ensures at c.looked-v.ensures), ← c.is_at_end.ensures) (rw (c.if-is_at_end.false, ← c.assignment.ensures, c.in_ok-q.was) (rw (← c.matches-2.ensures, c.in_default-matches.is, ← c.looked.ensures) (rw (← (rw (c.and-in_default-matches.ensures, c.new-from.ensures) at (c.close_access-in_default-matches.ensures (lower (view c.args.t.now) c.args.levels))))))))
 
 pub slice-returns-in-Some-check-2 : goal.slice-returns-in-Some-check-2
 unfolding run
-slice-returns-in-Some-check-2 t c = rw (← c.matches.ensures, c.in_default.is, ← c.check.ensures) (rw (c.in_default-check.is, ← (rw c.looked-u.ensures at c.looked-v.ensures), ← c.is_at_end.ensures) (rw (c.if-is_at_end.false, ← c.assignment.ensures, c.in_ok-q.was) (rw (← c.matches-2.ensures, c.in-Some-matches.is, ← c.check-2.ensures) (rw c.in-Some-check-2.is (rw ((rw c.at_token-s.ensures at c.at_token-in-Some-check-2.ensures)) at (c.close_access-in-Some-check-2.ensures (lower (view c.args.t.now) c.args.levels)))))))
+slice-returns-in-Some-check-2 t c = rw (← c.matches.ensures, c.in_default.is, ← c.check.ensures) (rw (c.in_default-check.is, ← (rw c.looked-u.ensures at c.looked-v.ensures), ← c.is_at_end.ensures) (rw (c.if-is_at_end.false, ← c.assignment.ensures, c.in_ok-q.was) (rw (← c.matches-2.ensures, c.in-Some-matches.is, ← c.check-2.ensures) (rw c.in-Some-check-2.is (rw (c.and-upto.ensures, c.new-from.ensures, rw c.at_token-s.ensures at c.at_token-in-Some-check-2.ensures) at (c.close_access-in-Some-check-2.ensures (lower (view c.args.t.now) c.args.levels)))))))
 
 pub slice-returns-then-is_at_end-2 : goal.slice-returns-then-is_at_end-2
 unfolding run
-slice-returns-then-is_at_end-2 t c = rw (← c.matches.ensures, c.in_default.is, ← c.check.ensures) (rw (c.in_default-check.is, ← (rw c.looked-u.ensures at c.looked-v.ensures), ← c.is_at_end.ensures) (rw (c.if-is_at_end.false, ← c.assignment.ensures, c.in_ok-q.was) (rw (← c.matches-2.ensures, c.in-Some-matches.is, ← c.check-2.ensures) (rw (c.in_default-check-2.is, ← (rw c.at_token-s.ensures at c.looked-w.ensures), ← (rw c.at_token-s.ensures at c.is_at_end-2.ensures)) (rw (c.if-is_at_end-2.true, ← c.close_access-then-is_at_end-2.ensures (lower (view c.args.t.now) c.args.levels)))))))
+slice-returns-then-is_at_end-2 t c = rw (← c.matches.ensures, c.in_default.is, ← c.check.ensures) (rw (c.in_default-check.is, ← (rw c.looked-u.ensures at c.looked-v.ensures), ← c.is_at_end.ensures) (rw (c.if-is_at_end.false, ← c.assignment.ensures, c.in_ok-q.was) (rw (← c.matches-2.ensures, c.in-Some-matches.is, ← c.check-2.ensures) (rw (c.in_default-check-2.is, ← (rw c.at_token-s.ensures at c.looked-w.ensures), ← (rw c.at_token-s.ensures at c.is_at_end-2.ensures)) (rw (c.if-is_at_end-2.true, ← (rw (c.and-upto.ensures, c.new-from.ensures) at (c.close_access-then-is_at_end-2.ensures (lower (view c.args.t.now) c.args.levels)))))))))
 
 pub slice-returns : goal.slice-returns
 unfolding run
-slice-returns t c = rw (← c.matches.ensures, c.in_default.is, ← c.check.ensures) (rw (c.in_default-check.is, ← (rw c.looked-u.ensures at c.looked-v.ensures), ← c.is_at_end.ensures) (rw (c.if-is_at_end.false, ← c.assignment.ensures, c.in_ok-q.was) (rw (← c.matches-2.ensures, c.in-Some-matches.is, ← c.check-2.ensures) (rw (c.in_default-check-2.is, ← (rw c.at_token-s.ensures at c.looked-w.ensures), ← (rw c.at_token-s.ensures at c.is_at_end-2.ensures)) (rw (c.if-is_at_end-2.false, ← c.assignment-g-2.ensures, ← c.step-2.ensures (lower (view c.args.t.now) c.args.levels)))))))
+slice-returns t c = rw (← c.matches.ensures, c.in_default.is, ← c.check.ensures) (rw (c.in_default-check.is, ← (rw c.looked-u.ensures at c.looked-v.ensures), ← c.is_at_end.ensures) (rw (c.if-is_at_end.false, ← c.assignment.ensures, c.in_ok-q.was) (rw (← c.matches-2.ensures, c.in-Some-matches.is, ← c.check-2.ensures) (rw (c.in_default-check-2.is, ← (rw c.at_token-s.ensures at c.looked-w.ensures), ← (rw c.at_token-s.ensures at c.is_at_end-2.ensures)) (rw (c.if-is_at_end-2.false, ← c.assignment-g-2.ensures, ← (rw (c.and-upto.ensures, c.new-from.ensures) at (c.step-2.ensures (lower (view c.args.t.now) c.args.levels)))))))))
 
 -- ---- stmt
 pub stmt-returns-then-kind-eq-FOR : goal.stmt-returns-then-kind-eq-FOR
@@ -934,7 +934,7 @@ unary-returns t c =
 -- ---- upto
 pub upto-returns-in-Some : goal.upto-returns-in-Some
 unfolding run
-upto-returns-in-Some t c = rw (← c.matches.ensures, c.in-Some.is, ← c.at_token.ensures) (rw (← c.assignment-g.ensures, ← c.step.ensures (lower (view c.args.t.now) c.args.levels)))
+upto-returns-in-Some t c = rw (← c.matches.ensures, c.in-Some.is, ← c.at_token.ensures) (rw (← c.assignment-g.ensures, ← (rw (c.and.ensures, c.new-from.ensures) at (c.step.ensures (lower (view c.args.t.now) c.args.levels)))))
 
 pub upto-returns-in_err-q : goal.upto-returns-in_err-q
 unfolding run
@@ -942,11 +942,11 @@ upto-returns-in_err-q t c = rw (given_up _ _ c.from_residual.ensures.1) (rw (←
 
 pub upto-returns-in-Some-matches : goal.upto-returns-in-Some-matches
 unfolding run
-upto-returns-in-Some-matches t c = rw (← c.matches.ensures, c.in_default.is, ← c.looked.ensures) (rw (← c.assignment.ensures, c.in_ok-q.was, ← c.matches-2.ensures) (rw (c.in-Some-matches.is, ← c.at_token-in-Some-matches.ensures, ← c.assignment-g-in-Some-matches.ensures) (rw (← c.step-in-Some-matches.ensures (lower (view c.args.t.now) c.args.levels)))))
+upto-returns-in-Some-matches t c = rw (← c.matches.ensures, c.in_default.is, ← c.looked.ensures) (rw (← c.assignment.ensures, c.in_ok-q.was, ← c.matches-2.ensures) (rw (c.in-Some-matches.is, ← c.at_token-in-Some-matches.ensures, ← c.assignment-g-in-Some-matches.ensures) (rw (← (rw (c.and-in-Some-matches.ensures, c.new-from.ensures) at (c.step-in-Some-matches.ensures (lower (view c.args.t.now) c.args.levels)))))))
 
 pub upto-returns : goal.upto-returns
 unfolding run
-upto-returns t c = rw (← c.matches.ensures, c.in_default.is, ← c.looked.ensures) (rw (← c.assignment.ensures, c.in_ok-q.was, ← c.matches-2.ensures) (rw (c.in_default-matches.is, ← c.looked-2.ensures, ← c.close_access.ensures (lower (view c.args.t.now) c.args.levels))))
+upto-returns t c = rw (← c.matches.ensures, c.in_default.is, ← c.looked.ensures) (rw (← c.assignment.ensures, c.in_ok-q.was, ← c.matches-2.ensures) (rw (c.in_default-matches.is, ← c.looked-2.ensures, ← (rw (c.and-2.ensures, c.new-from.ensures) at (c.close_access.ensures (lower (view c.args.t.now) c.args.levels))))))
 
 -- ---- while_stmt
 pub while_stmt-returns-in_err-q : goal.while_stmt-returns-in_err-q
