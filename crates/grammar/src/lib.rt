@@ -11,7 +11,7 @@ ghost use Rattle.pieces.specs.Pieces as pieces;
 ghost use Rattle.pieces.specs.Pieces.{run_at, end_class};
 ghost use Rattle.operators.specs.Operators.{behind_first};
 
-use parser::{Found, Out, State, Tokens};
+use parser::{Found, Members, Out, State, Tokens};
 use pieces::Access;
 use records::{Message, Node, Outcome};
 use token::Token;
@@ -21,18 +21,15 @@ use token::Token;
 fn block(t: &Tokens, errors: &mut [u32], nodes: &mut [u32], p: State, levels: u32) -> Out
     ensures { answered result errors.new nodes.new ≡ run_at (view t.now) levels (specs.block (view t.now)) p errors.old nodes.old }
 {
-    let mut first = 0;
-    let mut last = 0;
+    let mut list = Members::NONE;
     let mut s = p;
     loop {
         let at = s.current;
         if let Some(i) = t.matches(at, Token::RIGHT_CURLY_BRACE) {
-            return parser::gives(s.at_token(i, 1), first);
+            return parser::gives(s.at_token(i, 1), list.first);
         }
         let (q, n) = declaration(t, errors, nodes, s.looked(1), levels)?;
-        records::link(nodes, last, n.node);
-        first = parser::first_of(first, n.node);
-        last = n.node;
+        list = list.and(nodes, n.node);
         s = q;
     }
 }
@@ -160,10 +157,8 @@ fn methods(
     ensures { answered result errors.new nodes.new ≡ run_at (view t.now) levels (methods_from (view t.now) (fuel (view t.now)) (end_class name sup) 0 0 0 0) p errors.old nodes.old }
 {
     let mut s = p;
-    let mut first = 0;
-    let mut last = 0;
-    let mut first_static = 0;
-    let mut last_static = 0;
+    let mut list = Members::NONE;
+    let mut statics = Members::NONE;
     loop {
         let at = s.current;
         if let Some(i) = t.check(at, Token::RIGHT_CURLY_BRACE) {
@@ -173,26 +168,22 @@ fn methods(
                 nodes,
                 s.at_token(i, 1),
                 name,
-                first,
-                first_static,
+                list.first,
+                statics.first,
                 sup,
             );
         }
         let u = s.looked(1);
         if t.is_at_end(s) {
-            return pieces::end_class(t, errors, nodes, u, name, first, first_static, sup);
+            return pieces::end_class(t, errors, nodes, u, name, list.first, statics.first, sup);
         }
         if let Some(i) = t.matches(at, Token::CLASS) {
             let (q, n) = fn_stmt(t, errors, nodes, u.at_token(i, 1), levels)?;
-            records::link(nodes, last_static, n.node);
-            first_static = parser::first_of(first_static, n.node);
-            last_static = n.node;
+            statics = statics.and(nodes, n.node);
             s = q;
         } else {
             let (q, n) = fn_stmt(t, errors, nodes, u.looked(1), levels)?;
-            records::link(nodes, last, n.node);
-            first = parser::first_of(first, n.node);
-            last = n.node;
+            list = list.and(nodes, n.node);
             s = q;
         }
     }
@@ -376,12 +367,11 @@ fn elifs(t: &Tokens, errors: &mut [u32], nodes: &mut [u32], p: State, levels: u3
     ensures { answered result errors.new nodes.new ≡ run_at (view t.now) levels (elifs_from (view t.now) (fuel (view t.now)) 0 0) p errors.old nodes.old }
 {
     let mut s = p;
-    let mut first = 0;
-    let mut last = 0;
+    let mut list = Members::NONE;
     loop {
         let at = s.current;
         let Some(i) = t.matches(at, Token::ELIF) else {
-            return parser::gives(s.looked(1), first);
+            return parser::gives(s.looked(1), list.first);
         };
         let (q, cond) = assignment(t, errors, nodes, s.at_token(i, 1), levels)?;
         let (q, _) = t.consume(
@@ -396,9 +386,7 @@ fn elifs(t: &Tokens, errors: &mut [u32], nodes: &mut [u32], p: State, levels: u3
             q,
             pieces::row(Node::ELIF, 0, 0, 0, cond.node, stmts.node, 0, 0),
         )?;
-        records::link(nodes, last, n.node);
-        first = parser::first_of(first, n.node);
-        last = n.node;
+        list = list.and(nodes, n.node);
         s = u;
     }
 }
@@ -529,8 +517,7 @@ fn arguments(
         return parser::gives(p.at_token(i, 1), 0);
     }
     let mut s = p.looked(1);
-    let mut first = 0;
-    let mut last = 0;
+    let mut list = Members::NONE;
     let mut n: u32 = 0;
     loop {
         if (mark == Token::RIGHT_PAREN) & (255 <= n) {
@@ -538,17 +525,15 @@ fn arguments(
             return pieces::fatal(t, errors, s, Message::MAX_ARGUMENTS, at);
         }
         let (u, e) = assignment(t, errors, nodes, s, levels)?;
-        records::link(nodes, last, e.node);
-        first = parser::first_of(first, e.node);
-        last = e.node;
+        list = list.and(nodes, e.node);
         n += 1;
         let at = u.current;
         let Some(i) = t.matches(at, Token::COMMA) else {
-            return parser::gives(u.looked(1), first);
+            return parser::gives(u.looked(1), list.first);
         };
         let v = u.at_token(i, 1);
         if let Some(j) = t.check(i, mark) {
-            return parser::gives(v.at_token(j, 1), first);
+            return parser::gives(v.at_token(j, 1), list.first);
         }
         s = v.looked(1);
     }
@@ -560,23 +545,21 @@ fn pairs(t: &Tokens, errors: &mut [u32], nodes: &mut [u32], p: State, levels: u3
     ensures { answered result errors.new nodes.new ≡ run_at (view t.now) levels (dict_elements_from (view t.now) (fuel (view t.now)) 0 0) p errors.old nodes.old }
 {
     let mut s = p;
-    let mut first = 0;
-    let mut last = 0;
+    let mut list = Members::NONE;
     loop {
         let at = s.current;
         if let Some(i) = t.check(at, Token::RIGHT_CURLY_BRACE) {
-            return parser::gives(s.at_token(i, 1), first);
+            return parser::gives(s.at_token(i, 1), list.first);
         }
         let (q, key) = assignment(t, errors, nodes, s.looked(1), levels)?;
         let (q, _) = t.consume(errors, q, Token::COLON, Message::EXPECTED_COLON_AFTER_KEY)?;
         let (u, value) = assignment(t, errors, nodes, q, levels)?;
-        records::link(nodes, last, key.node);
+        list = list.and(nodes, key.node);
         records::link(nodes, key.node, value.node);
-        first = parser::first_of(first, key.node);
-        last = value.node;
+        list.last = value.node;
         let at = u.current;
         let Some(i) = t.matches(at, Token::COMMA) else {
-            return parser::gives(u.looked(1), first);
+            return parser::gives(u.looked(1), list.first);
         };
         s = u.at_token(i, 1);
     }
@@ -693,8 +676,7 @@ fn primary(t: &Tokens, errors: &mut [u32], nodes: &mut [u32], p: State, levels: 
     let coming = t.peek(at);
     let kind = coming.kind;
     let j = coming.past;
-    let n = pieces::literal_place(kind);
-    if n != 0 {
+    if let Some(n) = pieces::literal_place(kind) {
         return parser::make(
             nodes,
             p.at_token(j, n),
@@ -751,7 +733,7 @@ fn call(t: &Tokens, errors: &mut [u32], nodes: &mut [u32], p: State, levels: u32
     let (u, first) = primary(t, errors, nodes, p, levels)?;
     let at = u.current;
     let coming = t.peek(at);
-    if pieces::suffix_place(coming.kind) == 0 {
+    if pieces::suffix_place(coming.kind).is_none() {
         return pieces::found(u.looked(3), first);
     }
     let mut e = first;
@@ -794,8 +776,7 @@ fn unary(t: &Tokens, errors: &mut [u32], nodes: &mut [u32], p: State, levels: u3
     let at = p.current;
     let coming = t.peek(at);
     let kind = coming.kind;
-    let n = pieces::prefix_place(kind);
-    if n != 0 {
+    if let Some(n) = pieces::prefix_place(kind) {
         let j = coming.past;
         let q = p.at_token(j, n);
         if levels == 0 {

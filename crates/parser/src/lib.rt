@@ -3,6 +3,7 @@
 
 ghost use Rattle.std.specs.Prelude.{◌≡◌, List, not, ℕ, ◌-◌, eqb, Ok, Err};
 ghost use Rattle.token.specs.Kind.{eof_kind};
+ghost use Rattle.records.specs.Table.{linked};
 ghost use Rattle.rules.specs.Rules.{loops_behind};
 ghost use Rattle.parser.specs.Tokens.{kind_at, start_at, line_at, after, indexed, view, skip_lines, peek_at, check_at, matches_at};
 ghost use Rattle.parser.specs.Tables.{answered, moved, counted_by, looked, looped, with_nodes, with_errors, fresh_state, error_at, push_node, push_error, plain, consume_at, require_at};
@@ -365,11 +366,34 @@ pub fn stops(p: State, outcome: Outcome) -> Out
 
 // ---- writing
 
-// A list's first member: the one it has, or the one that is added. `records::link` puts a node after the last.
+// A list's first member: the one it has, or the one that is added.
 pub fn first_of(first: u32, n: u32) -> u32
     ensures { result ≡ first_of first n }
 {
     if first == 0 { n } else { first }
+}
+
+// A list that is being read: its first member and its last, 0 while there is none.
+#[derive(Clone, Copy)]
+pub struct Members {
+    pub first: u32,
+    pub last: u32,
+}
+
+impl Members {
+    pub const NONE: Members = Members { first: 0, last: 0 };
+
+    // One member more: the last one leads to it.
+    pub fn and(self, nodes: &mut [u32], n: u32) -> Self
+        ensures members { result ≡ record { first = first_of self.first n; last = n } }
+        ensures next { nodes.new ≡ linked nodes.old self.last n }
+    {
+        records::link(nodes, self.last, n);
+        Members {
+            first: first_of(self.first, n),
+            last: n,
+        }
+    }
 }
 
 // One more node: its reference; 7 where it finds no room.

@@ -2,18 +2,18 @@
 use mathlib.Core.Path.{◌≡◌, refl, sym, ap, subst, ◌∙◌}
 use mathlib.Core.Bool.{Bool, true, false, ◌||◌}
 use mathlib.Core.List.{List, [], ◌∷◌}
-use Prim.Native.Nat.{ℕ, ◌+◌, ◌<◌}
+use Prim.Native.Nat.{ℕ, zero, suc, ◌+◌, ◌<◌}
 use native.Mathlib.Omega.{arith}
 use lib.Dec.{eqb}
 use borrow.Author.Tests.{ne_eqb, eqb-true, eqb-false}
 use Rattle.parser.specs.declared.State.{State}
 use Rattle.parser.specs.declared.Coming.{Coming}
-use Rattle.std.specs.Prelude.{Option}
+use Rattle.std.specs.Prelude.{Option, is_some}
 use Rattle.std.specs.Prelude.{Some, None}
 use Rattle.parser.specs.Tokens.{View, kind_at, after, skip_lines, peek_at, check_at, matches_at}
 use Rattle.parser.specs.Tables.{Reply, moved, looked, if_seen}
 use Rattle.parser.specs.Programs.{Which, Reader, Prog, look, run}
-use Rattle.pieces.specs.Pieces.{among, place_in}
+use Rattle.pieces.specs.Pieces.{among, place_in, unless_none}
 use Rattle.parser.proofs.Look.{check_found, check_none}
 use Rattle.parser.proofs.Write.{looked_more, looked_none}
 use Rattle.progress.proofs.Moves.{never}
@@ -152,3 +152,19 @@ of_none (k ∷ ks) n kind l e = go (eqb kind k) refl e (of_none ks (n + 1) kind 
     go : (b : Bool) → eqb kind k ≡ b → ◌≡◌ {A = ℕ} (elim b [ true ↦ n | false ↦ place_in (n + 1) ks kind ]) 0 → (place_in (n + 1) ks kind ≡ 0 → Each (λ k. kind ≡ k → ⊥) ks) → Each (λ k. kind ≡ k → ⊥) (k ∷ ks)
     go true t e f = absurd (omega arith)
     go false t e f = (eqb-false kind k t, f e)
+
+-- a place that was found is the place, and not 0
+pub placed : (n i : ℕ) (o : Option ℕ) → o ≡ unless_none n → o ≡ Some i → (i ≡ n) × (i ≡ 0 → ⊥)
+unfolding unless_none
+placed zero i o e f = absurd (cc)
+placed (suc n) i o e f = let g : ◌≡◌ {A = Option ℕ} (Some (suc n)) (Some i) = sym e ∙ f in let h : suc n ≡ i = cc in (sym h, λ z. absurd (omega arith))
+
+-- none was found
+pub unplaced : (n : ℕ) (o : Option ℕ) → o ≡ unless_none n → o ≡ None → 0 ≡ n
+unfolding unless_none
+unplaced zero o e f = refl
+unplaced (suc n) o e f = absurd (cc)
+
+pub none_is : (o : Option ℕ) → is_some o ≡ false → o ≡ None
+none_is None e = refl
+none_is (Some i) e = absurd (cc)

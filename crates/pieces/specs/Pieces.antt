@@ -1,5 +1,5 @@
 -- Programs of the code's own functions, where the Rust has no function of that name: parts of the readers.
-use Rattle.std.specs.Prelude.{ℕ, ◌+◌, Bool, true, false, ◌||◌, List, [], ◌∷◌, eqb}
+use Rattle.std.specs.Prelude.{ℕ, zero, suc, ◌+◌, Bool, true, false, ◌||◌, List, [], ◌∷◌, Option, Some, None, eqb}
 use Rattle.token.specs.Kind.{left_paren_kind, right_paren_kind, left_brace_kind, right_brace_kind, right_curly_brace_kind, dot_kind, minus_kind, semicolon_kind, less_kind, identifier_kind, number_kind, string_kind, false_kind, true_kind, nil_kind, not_kind}
 use Rattle.records.specs.Messages.{expected_variable_name, expected_right_curly, expect_paren_after_expression, expected_semicolon, only_inside_loop, expected_end_of_list, expected_end_of_dict, expected_property_name, expect_paren_after_arguments}
 use Rattle.parser.specs.Tokens.{View}
@@ -81,6 +81,11 @@ among (k ∷ ks) kind = eqb kind k || among ks kind
 unfoldable pub place_in : ℕ → List ℕ → ℕ → ℕ
 place_in n [] kind = 0
 place_in n (k ∷ ks) kind = elim (eqb kind k) [ true ↦ n | false ↦ place_in (n + 1) ks kind ]
+
+-- a place, and none for 0
+unfoldable pub unless_none : ℕ → Option ℕ
+unless_none zero = None
+unless_none (suc n) = Some (suc n)
 
 -- the kinds of a literal's token, in the order in which `primary` tests for them
 abbrev pub literals : List ℕ

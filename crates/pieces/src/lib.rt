@@ -11,9 +11,9 @@ ghost use Rattle.parser.specs.Programs.{Which, Reader, run};
 ghost use Rattle.parser.specs.Grammar as specs;
 ghost use Rattle.parser.specs.Grammar.{named, last_of, form_through, fuel, names_from, closed, super_expr};
 ghost use Rattle.pieces.specs.Pieces as pieces;
-ghost use Rattle.pieces.specs.Pieces.{end_class, place_in, literals, prefixes, suffixes};
+ghost use Rattle.pieces.specs.Pieces.{end_class, place_in, unless_none, literals, prefixes, suffixes};
 
-use parser::{Form, Found, Out, State, Tokens};
+use parser::{Form, Found, Members, Out, State, Tokens};
 use records::{Message, Node, Outcome};
 use token::Token;
 
@@ -107,8 +107,7 @@ pub fn parameters(t: &Tokens, errors: &mut [u32], nodes: &mut [u32], p: State, m
         return parser::gives(p.at_token(i, 1), 0);
     }
     let mut s = p.looked(1);
-    let mut first = 0;
-    let mut last = 0;
+    let mut list = Members::NONE;
     let mut n: u32 = 0;
     loop {
         if 255 < n {
@@ -117,13 +116,11 @@ pub fn parameters(t: &Tokens, errors: &mut [u32], nodes: &mut [u32], p: State, m
         }
         let (q, i) = t.require(errors, s, Token::IDENTIFIER, message)?;
         let (u, d) = parser::make(nodes, q, row(Node::NAME, i.node, 0, 0, 0, 0, 0, 0))?;
-        records::link(nodes, last, d.node);
-        first = parser::first_of(first, d.node);
-        last = d.node;
+        list = list.and(nodes, d.node);
         n += 1;
         let at = u.current;
         let Some(i) = t.matches(at, Token::COMMA) else {
-            return parser::gives(u.looked(1), first);
+            return parser::gives(u.looked(1), list.first);
         };
         s = u.at_token(i, 1);
     }
@@ -193,21 +190,18 @@ pub fn names(t: &Tokens, nodes: &mut [u32], p: State) -> Out
     ensures { (low : Which → Reader) (E : List ℕ) → answered result E nodes.new ≡ run (view t.now) low (names_from (view t.now) (fuel (view t.now)) 0 0) p E nodes.old }
 {
     let mut s = p;
-    let mut first = 0;
-    let mut last = 0;
+    let mut list = Members::NONE;
     loop {
         let at = s.current;
         let Some(i) = t.matches(at, Token::IDENTIFIER) else {
-            return parser::gives(s.looked(1), first);
+            return parser::gives(s.looked(1), list.first);
         };
         let (u, n) = parser::make(
             nodes,
             s.at_token(i, 1),
             row(Node::NAME, i, 0, 0, 0, 0, 0, 0),
         )?;
-        records::link(nodes, last, n.node);
-        first = parser::first_of(first, n.node);
-        last = n.node;
+        list = list.and(nodes, n.node);
         let at = u.current;
         s = match t.matches(at, Token::COMMA) {
             Some(j) => u.at_token(j, 1),
@@ -438,43 +432,43 @@ pub fn empty(nodes: &mut [u32], p: State) -> Out
     gives_form(q, n.node, Form::Empty, 0)
 }
 
-// Which of `primary`'s first tests finds a literal's token of this kind; 0 if none does.
-#[tactic(auto, unfolding(crate::specs::Pieces::place_in))]
-pub fn literal_place(kind: u32) -> u32
-    ensures { result ≡ place_in 1 literals kind }
+// Which of `primary`'s first tests finds a literal's token of this kind, if any does.
+#[tactic(auto, unfolding(crate::specs::Pieces::place_in, crate::specs::Pieces::unless_none))]
+pub fn literal_place(kind: u32) -> Option<u32>
+    ensures { result ≡ unless_none (place_in 1 literals kind) }
 {
     match kind {
-        Token::NUMBER => 1,
-        Token::STRING => 2,
-        Token::FALSE => 3,
-        Token::TRUE => 4,
-        Token::NIL => 5,
-        _ => 0,
+        Token::NUMBER => Some(1),
+        Token::STRING => Some(2),
+        Token::FALSE => Some(3),
+        Token::TRUE => Some(4),
+        Token::NIL => Some(5),
+        _ => None,
     }
 }
 
-// Which of `unary`'s tests finds a prefix operator of this kind; 0 if none does.
-#[tactic(auto, unfolding(crate::specs::Pieces::place_in))]
-pub fn prefix_place(kind: u32) -> u32
-    ensures { result ≡ place_in 1 prefixes kind }
+// Which of `unary`'s tests finds a prefix operator of this kind, if any does.
+#[tactic(auto, unfolding(crate::specs::Pieces::place_in, crate::specs::Pieces::unless_none))]
+pub fn prefix_place(kind: u32) -> Option<u32>
+    ensures { result ≡ unless_none (place_in 1 prefixes kind) }
 {
     match kind {
-        Token::NOT => 1,
-        Token::MINUS => 2,
-        _ => 0,
+        Token::NOT => Some(1),
+        Token::MINUS => Some(2),
+        _ => None,
     }
 }
 
-// Which of `call`'s tests finds what goes on with an expression, of this kind; 0 if none does.
-#[tactic(auto, unfolding(crate::specs::Pieces::place_in))]
-pub fn suffix_place(kind: u32) -> u32
-    ensures { result ≡ place_in 1 suffixes kind }
+// Which of `call`'s tests finds what goes on with an expression, of this kind, if any does.
+#[tactic(auto, unfolding(crate::specs::Pieces::place_in, crate::specs::Pieces::unless_none))]
+pub fn suffix_place(kind: u32) -> Option<u32>
+    ensures { result ≡ unless_none (place_in 1 suffixes kind) }
 {
     match kind {
-        Token::LEFT_PAREN => 1,
-        Token::DOT => 2,
-        Token::LEFT_BRACE => 3,
-        _ => 0,
+        Token::LEFT_PAREN => Some(1),
+        Token::DOT => Some(2),
+        Token::LEFT_BRACE => Some(3),
+        _ => None,
     }
 }
 

@@ -1,4 +1,4 @@
-use Rattle.std.proofs.Common.{◌≡◌, ℕ, suc, ◌+◌, ◌-◌, ◌<◌, [], refl, sym, ap, ◌∙◌, arith}
+use Rattle.std.proofs.Common.{◌≡◌, ℕ, suc, ◌+◌, ◌-◌, ◌<◌, [], refl, sym, ap, ◌∙◌, arith, rules}
 use Rattle.grammar.proofs.Begins.{primary_else, primary_fn, primary_identifier, primary_leftbrace, primary_leftcurlybrace, primary_leftparen, primary_literal, primary_super, primary_this}
 use Rattle.grammar.proofs.CallTurns.{call_brace, call_dot, call_else, call_end_lem, call_paren}
 use Rattle.grammar.proofs.Else.{else_block}
@@ -17,7 +17,7 @@ use Rattle.parser.specs.Tokens.{count, view}
 use Rattle.parser.specs.Tables.{Node}
 use Rattle.parser.proofs.Exits.{given_up}
 use Rattle.parser.specs.declared.State.{State}
-use Rattle.pieces.proofs.NextKind.{peeked}
+use Rattle.pieces.proofs.NextKind.{peeked, placed, unplaced, none_is}
 use Rattle.pieces.proofs.Turns.{both_on, consume_on, found_past, gave_past, make_on, next_past, not_back, reading_past}
 use Rattle.pieces.specs.Pieces.{call_end, end_class, get}
 use Rattle.progress.proofs.Moves.{moves}
@@ -66,11 +66,11 @@ arguments-overflow_add-n t c =
 
 pub arguments-returns-in_default-matches : goal.arguments-returns-in_default-matches
 unfolding run arguments_from
-arguments-returns-in_default-matches t c = rw (before_arguments _ _ _ _ _ _ _ _ _ c.check.ensures c.in_default.is c.looked-s.ensures c.loop-n.invariant.same, c.if-mark-n.false, ← c.assignment.ensures) (rw (c.in_ok-u.was, ← c.link.ensures, ← c.first_of-first.ensures) (rw (← c.matches.ensures, c.in_default-matches.is, ← c.looked.ensures) (rw c.gives-in_default-matches.ensures)))
+arguments-returns-in_default-matches t c = rw (before_arguments _ _ _ _ _ _ _ _ _ c.check.ensures c.in_default.is c.looked-s.ensures c.loop-n.invariant.same, c.if-mark-n.false, ← c.assignment.ensures) (rw (c.in_ok-u.was, ← c.and-list.ensures.next) (rw (← c.matches.ensures, c.in_default-matches.is, ← c.looked.ensures) (rw (c.gives-in_default-matches.ensures, c.and-list.ensures.members))))
 
 pub arguments-returns-in-Some-check : goal.arguments-returns-in-Some-check
 unfolding run arguments_from
-arguments-returns-in-Some-check t c = rw (before_arguments _ _ _ _ _ _ _ _ _ c.check.ensures c.in_default.is c.looked-s.ensures c.loop-n.invariant.same, c.if-mark-n.false, ← c.assignment.ensures) (rw (c.in_ok-u.was, ← c.link.ensures, ← c.first_of-first.ensures) (rw (← c.matches.ensures, c.in-Some-matches.is, ← c.check-in-loop-n.ensures) (rw (c.in-Some-check.is, ← (rw c.at_token-v.ensures at c.at_token-in-Some-check.ensures), c.gives-in-Some-check.ensures))))
+arguments-returns-in-Some-check t c = rw (before_arguments _ _ _ _ _ _ _ _ _ c.check.ensures c.in_default.is c.looked-s.ensures c.loop-n.invariant.same, c.if-mark-n.false, ← c.assignment.ensures) (rw (c.in_ok-u.was, ← c.and-list.ensures.next) (rw (← c.matches.ensures, c.in-Some-matches.is, ← c.check-in-loop-n.ensures) (rw (c.in-Some-check.is, ← (rw c.at_token-v.ensures at c.at_token-in-Some-check.ensures), c.gives-in-Some-check.ensures, c.and-list.ensures.members))))
 
 arguments_turn : (t : ℕ) (c : goal.arguments-After-looked-s-in-loop-n t) → (c.loop-n.s.current < c.looked-s-in-loop-n.result.current) × (c.loop-n.s.current < count c.args.t.now.table.now)
 arguments_turn t c =
@@ -83,15 +83,15 @@ arguments_turn t c =
 pub arguments-loop-n-smaller : goal.arguments-loop-n-smaller
 arguments-loop-n-smaller t c = let g = arguments_turn t c in omega arith
 
-arguments_again : (t : ℕ) (c : goal.arguments-After-looked-s-in-loop-n t) → run (view c.args.t.now) (lower (view c.args.t.now) c.args.levels) (arguments_from (view c.args.t.now) c.args.mark c.loop-n.invariant.fuel (c.loop-n.n + 1) c.first_of-first.result c.in_ok-u.e.node) c.looked-s-in-loop-n.result c.assignment.new.errors c.link.new.nodes ≡ run (view c.args.t.now) (lower (view c.args.t.now) c.args.levels) (arguments_from (view c.args.t.now) c.args.mark (suc c.loop-n.invariant.fuel) c.loop-n.n c.loop-n.first c.loop-n.last) c.loop-n.s c.loop-n.errors c.loop-n.nodes
+arguments_again : (t : ℕ) (c : goal.arguments-After-looked-s-in-loop-n t) → run (view c.args.t.now) (lower (view c.args.t.now) c.args.levels) (arguments_from (view c.args.t.now) c.args.mark c.loop-n.invariant.fuel (c.loop-n.n + 1) c.and-list.result.first c.and-list.result.last) c.looked-s-in-loop-n.result c.assignment.new.errors c.and-list.new.nodes ≡ run (view c.args.t.now) (lower (view c.args.t.now) c.args.levels) (arguments_from (view c.args.t.now) c.args.mark (suc c.loop-n.invariant.fuel) c.loop-n.n c.loop-n.list.first c.loop-n.list.last) c.loop-n.s c.loop-n.errors c.loop-n.nodes
 unfolding run arguments_from
-arguments_again t c = rw (c.if-mark-n.false, ← c.assignment.ensures, c.in_ok-u.was) (rw (← c.link.ensures, ← c.first_of-first.ensures, ← c.matches.ensures) (rw (c.in-Some-matches.is, ← c.check-in-loop-n.ensures, c.in_default-check.is) (rw (← (rw c.at_token-v.ensures at c.looked-s-in-loop-n.ensures)))))
+arguments_again t c = rw (c.if-mark-n.false, ← c.assignment.ensures, c.in_ok-u.was) (rw (← c.and-list.ensures.next, c.and-list.ensures.members, ← c.matches.ensures) (rw (c.in-Some-matches.is, ← c.check-in-loop-n.ensures, c.in_default-check.is) (rw (← (rw c.at_token-v.ensures at c.looked-s-in-loop-n.ensures)))))
 
 pub arguments-loop-n-preserved : goal.arguments-loop-n-preserved
 arguments-loop-n-preserved t c =
     let g = arguments_turn t c in
     let f : suc (c.loop-n.invariant.fuel - 1) ≡ c.loop-n.invariant.fuel = omega (arith, c.loop-n.invariant.enough) in
-    record { fuel = c.loop-n.invariant.fuel - 1; enough = omega (arith, c.loop-n.invariant.enough); passed = omega (arith, c.loop-n.invariant.passed); same = rw f (arguments_again t c ∙ c.loop-n.invariant.same); errors = c.assignment.auto.errors ∙ c.loop-n.invariant.errors; nodes = c.link.auto.nodes ∙ c.assignment.auto.nodes ∙ c.loop-n.invariant.nodes }
+    record { fuel = c.loop-n.invariant.fuel - 1; enough = omega (arith, c.loop-n.invariant.enough); passed = omega (arith, c.loop-n.invariant.passed); same = rw f (arguments_again t c ∙ c.loop-n.invariant.same); errors = c.assignment.auto.errors ∙ c.loop-n.invariant.errors; nodes = c.and-list.auto.nodes ∙ c.assignment.auto.nodes ∙ c.loop-n.invariant.nodes }
 
 -- ---- assignment
 pub assignment-returns-then-levels-eq0 : goal.assignment-returns-then-levels-eq0
@@ -190,32 +190,32 @@ pub block-returns-in_err-q : goal.block-returns-in_err-q
 unfolding run block block_from
 block-returns-in_err-q t c = rw (given_up _ _ c.from_residual.ensures.1) (rw (← c.loop-i.invariant.same, ← c.matches.ensures, c.in_default.is) (rw (← c.looked.ensures, ← c.declaration.ensures, c.in_err-q.was)))
 
-block_turn : (t : ℕ) (c : goal.block-After-first_of-first t) → (c.loop-i.s.current < c.in_ok-q.q.current) × (c.loop-i.s.current < count c.args.t.now.table.now)
+block_turn : (t : ℕ) (c : goal.block-After-slice_known-in-loop-i-3-1 t) → (c.loop-i.s.current < c.in_ok-q.q.current) × (c.loop-i.s.current < count c.args.t.now.table.now)
 block_turn t c = let g = reading_past (view c.args.t.now) c.args.levels Declaration _ _ _ _ _ _ _ _ (rw c.in_ok-q.was at c.declaration.ensures) refl in let a = ap (λ (x : State). x.current) c.looked.ensures in (omega (arith, g.1, a), omega (arith, g.0, a))
 
 pub block-loop-i-smaller : goal.block-loop-i-smaller
 block-loop-i-smaller t c = let g = block_turn t c in omega arith
 
-block_again : (t : ℕ) (c : goal.block-After-first_of-first t) → run (view c.args.t.now) (lower (view c.args.t.now) c.args.levels) (block_from (view c.args.t.now) c.loop-i.invariant.fuel c.first_of-first.result c.in_ok-q.n.node) c.in_ok-q.q c.declaration.new.errors c.link.new.nodes ≡ run (view c.args.t.now) (lower (view c.args.t.now) c.args.levels) (block_from (view c.args.t.now) (suc c.loop-i.invariant.fuel) c.loop-i.first c.loop-i.last) c.loop-i.s c.loop-i.errors c.loop-i.nodes
+block_again : (t : ℕ) (c : goal.block-After-slice_known-in-loop-i-3-1 t) → run (view c.args.t.now) (lower (view c.args.t.now) c.args.levels) (block_from (view c.args.t.now) c.loop-i.invariant.fuel c.and-list.result.first c.and-list.result.last) c.in_ok-q.q c.declaration.new.errors c.and-list.new.nodes ≡ run (view c.args.t.now) (lower (view c.args.t.now) c.args.levels) (block_from (view c.args.t.now) (suc c.loop-i.invariant.fuel) c.loop-i.list.first c.loop-i.list.last) c.loop-i.s c.loop-i.errors c.loop-i.nodes
 unfolding run block_from
-block_again t c = rw (← c.matches.ensures, c.in_default.is, ← c.looked.ensures) (rw (← c.declaration.ensures, c.in_ok-q.was, ← c.link.ensures) (rw (← c.first_of-first.ensures)))
+block_again t c = rw (← c.matches.ensures, c.in_default.is, ← c.looked.ensures) (rw (← c.declaration.ensures, c.in_ok-q.was, ← c.and-list.ensures.next, c.and-list.ensures.members))
 
 pub block-loop-i-preserved : goal.block-loop-i-preserved
 block-loop-i-preserved t c =
     let g = block_turn t c in
     let f : suc (c.loop-i.invariant.fuel - 1) ≡ c.loop-i.invariant.fuel = omega (arith, c.loop-i.invariant.enough) in
-    record { fuel = c.loop-i.invariant.fuel - 1; enough = omega (arith, c.loop-i.invariant.enough); same = rw f (block_again t c ∙ c.loop-i.invariant.same); errors = c.declaration.auto.errors ∙ c.loop-i.invariant.errors; nodes = c.link.auto.nodes ∙ c.declaration.auto.nodes ∙ c.loop-i.invariant.nodes }
+    record { fuel = c.loop-i.invariant.fuel - 1; enough = omega (arith, c.loop-i.invariant.enough); same = rw f (block_again t c ∙ c.loop-i.invariant.same); errors = c.declaration.auto.errors ∙ c.loop-i.invariant.errors; nodes = c.and-list.auto.nodes ∙ c.declaration.auto.nodes ∙ c.loop-i.invariant.nodes }
 
 -- ---- call
 pub call-returns-in_err-u : goal.call-returns-in_err-u
 unfolding run call
 call-returns-in_err-u t c = rw (given_up _ _ c.from_residual.ensures.1) (rw (← c.primary.ensures, c.in_err-u.was))
 
-pub call-returns-then-suffix_place-eq0 : goal.call-returns-then-suffix_place-eq0
+pub call-returns-then-is_none : goal.call-returns-then-is_none
 unfolding run call
-call-returns-then-suffix_place-eq0 t c =
+call-returns-then-is_none t c =
     let n = peeked (view c.args.t.now) c.in_ok-u.u.current _ c.peek-coming.ensures in
-    let e = call_else (view c.args.t.now) (lower (view c.args.t.now) c.args.levels) (count c.args.t.now.table.now) c.in_ok-u.first c.in_ok-u.u c.primary.new.errors c.primary.new.nodes _ _ n _ c.suffix_place.ensures c.if-suffix_place-eq0.true in
+    let e = call_else (view c.args.t.now) (lower (view c.args.t.now) c.args.levels) (count c.args.t.now.table.now) c.in_ok-u.first c.in_ok-u.u c.primary.new.errors c.primary.new.nodes _ _ n _ (unplaced _ _ c.suffix_place.ensures (none_is c.suffix_place.result (search rules))) refl in
     rw (← c.primary.ensures, c.in_ok-u.was, e) (rw (← c.looked.ensures, c.found.ensures))
 
 pub call-loop-errors-init : goal.call-loop-errors-init
@@ -395,7 +395,7 @@ pub elifs-returns-in_err-u : goal.elifs-returns-in_err-u
 unfolding run elifs_from
 elifs-returns-in_err-u t c = rw (given_up _ _ c.from_residual-in_err-u.ensures.1) (rw (← c.loop-i.invariant.same, ← c.matches.ensures, c.in-Some.is) (rw (← c.at_token.ensures, ← c.assignment.ensures, c.in_ok-q.was) (rw (← c.consume.ensures c.assignment.new.nodes, c.in_ok-q-2.was, ← c.block.ensures) (rw (c.in_ok-q-3.was, ← c.row.ensures, ← c.make.ensures c.block.new.errors) (rw c.in_err-u.was)))))
 
-elifs_turn : (t : ℕ) (c : goal.elifs-After-first_of-first t) → (c.loop-i.s.current < c.in_ok-u.u.current) × (c.loop-i.s.current < count c.args.t.now.table.now)
+elifs_turn : (t : ℕ) (c : goal.elifs-After-slice_known-in-loop-i-7-1 t) → (c.loop-i.s.current < c.in_ok-u.u.current) × (c.loop-i.s.current < count c.args.t.now.table.now)
 elifs_turn t c =
     let g = found_past _ _ _ _ _ c.matches.ensures c.in-Some.is refl in
     let a = ap (λ (x : State). x.current) c.at_token.ensures in
@@ -408,15 +408,15 @@ elifs_turn t c =
 pub elifs-loop-i-smaller : goal.elifs-loop-i-smaller
 elifs-loop-i-smaller t c = let g = elifs_turn t c in omega arith
 
-elifs_again : (t : ℕ) (c : goal.elifs-After-first_of-first t) → run (view c.args.t.now) (lower (view c.args.t.now) c.args.levels) (elifs_from (view c.args.t.now) c.loop-i.invariant.fuel c.first_of-first.result c.in_ok-u.n.node) c.in_ok-u.u c.block.new.errors c.link.new.nodes ≡ run (view c.args.t.now) (lower (view c.args.t.now) c.args.levels) (elifs_from (view c.args.t.now) (suc c.loop-i.invariant.fuel) c.loop-i.first c.loop-i.last) c.loop-i.s c.loop-i.errors c.loop-i.nodes
+elifs_again : (t : ℕ) (c : goal.elifs-After-slice_known-in-loop-i-7-1 t) → run (view c.args.t.now) (lower (view c.args.t.now) c.args.levels) (elifs_from (view c.args.t.now) c.loop-i.invariant.fuel c.and-list.result.first c.and-list.result.last) c.in_ok-u.u c.block.new.errors c.and-list.new.nodes ≡ run (view c.args.t.now) (lower (view c.args.t.now) c.args.levels) (elifs_from (view c.args.t.now) (suc c.loop-i.invariant.fuel) c.loop-i.list.first c.loop-i.list.last) c.loop-i.s c.loop-i.errors c.loop-i.nodes
 unfolding run elifs_from
-elifs_again t c = rw (← c.matches.ensures, c.in-Some.is, ← c.at_token.ensures) (rw (← c.assignment.ensures, c.in_ok-q.was, ← c.consume.ensures c.assignment.new.nodes) (rw (c.in_ok-q-2.was, ← c.block.ensures, c.in_ok-q-3.was) (rw (← c.row.ensures, ← c.make.ensures c.block.new.errors, c.in_ok-u.was) (rw (← c.link.ensures, ← c.first_of-first.ensures)))))
+elifs_again t c = rw (← c.matches.ensures, c.in-Some.is, ← c.at_token.ensures) (rw (← c.assignment.ensures, c.in_ok-q.was, ← c.consume.ensures c.assignment.new.nodes) (rw (c.in_ok-q-2.was, ← c.block.ensures, c.in_ok-q-3.was) (rw (← c.row.ensures, ← c.make.ensures c.block.new.errors, c.in_ok-u.was) (rw (← c.and-list.ensures.next, c.and-list.ensures.members)))))
 
 pub elifs-loop-i-preserved : goal.elifs-loop-i-preserved
 elifs-loop-i-preserved t c =
     let g = elifs_turn t c in
     let f : suc (c.loop-i.invariant.fuel - 1) ≡ c.loop-i.invariant.fuel = omega (arith, c.loop-i.invariant.enough) in
-    record { fuel = c.loop-i.invariant.fuel - 1; enough = omega (arith, c.loop-i.invariant.enough); same = rw f (elifs_again t c ∙ c.loop-i.invariant.same); errors = c.block.auto.errors ∙ c.consume.auto.errors ∙ c.assignment.auto.errors ∙ c.loop-i.invariant.errors; nodes = c.link.auto.nodes ∙ c.make.auto.nodes ∙ c.block.auto.nodes ∙ c.assignment.auto.nodes ∙ c.loop-i.invariant.nodes }
+    record { fuel = c.loop-i.invariant.fuel - 1; enough = omega (arith, c.loop-i.invariant.enough); same = rw f (elifs_again t c ∙ c.loop-i.invariant.same); errors = c.block.auto.errors ∙ c.consume.auto.errors ∙ c.assignment.auto.errors ∙ c.loop-i.invariant.errors; nodes = c.and-list.auto.nodes ∙ c.make.auto.nodes ∙ c.block.auto.nodes ∙ c.assignment.auto.nodes ∙ c.loop-i.invariant.nodes }
 
 -- ---- fn_expr
 pub fn_expr-returns-in_err-s : goal.fn_expr-returns-in_err-s
@@ -596,7 +596,7 @@ pub methods-returns-in_err-q : goal.methods-returns-in_err-q
 unfolding run methods_from
 methods-returns-in_err-q t c = rw (given_up _ _ c.from_residual.ensures.1) (rw (← c.loop-i.invariant.same, ← c.check.ensures, c.in_default.is) (rw (← c.is_at_end.ensures, c.if-is_at_end.false, ← c.matches.ensures) (rw (c.in-Some-matches.is, ← (rw c.looked-u.ensures at c.at_token-in-Some-matches.ensures), ← c.fn_stmt.ensures) (rw c.in_err-q.was))))
 
-methods_turn : (t : ℕ) (c : goal.methods-After-first_of-first_static t) → (c.loop-i.s.current < c.in_ok-q.q.current) × (c.loop-i.s.current < count c.args.t.now.table.now)
+methods_turn : (t : ℕ) (c : goal.methods-After-slice_known-in-Some-matches-3-1 t) → (c.loop-i.s.current < c.in_ok-q.q.current) × (c.loop-i.s.current < count c.args.t.now.table.now)
 methods_turn t c =
     let g = found_past _ _ _ _ _ c.matches.ensures c.in-Some-matches.is refl in
     let a = ap (λ (x : State). x.current) c.at_token-in-Some-matches.ensures in
@@ -606,36 +606,36 @@ methods_turn t c =
 pub methods-loop-i-smaller-in-Some-matches : goal.methods-loop-i-smaller-in-Some-matches
 methods-loop-i-smaller-in-Some-matches t c = let g = methods_turn t c in omega arith
 
-methods_again : (t : ℕ) (c : goal.methods-After-first_of-first_static t) → run (view c.args.t.now) (lower (view c.args.t.now) c.args.levels) (methods_from (view c.args.t.now) c.loop-i.invariant.fuel (end_class c.args.name c.args.sup) c.loop-i.first c.loop-i.last c.first_of-first_static.result c.in_ok-q.n.node) c.in_ok-q.q c.fn_stmt.new.errors c.link.new.nodes ≡ run (view c.args.t.now) (lower (view c.args.t.now) c.args.levels) (methods_from (view c.args.t.now) (suc c.loop-i.invariant.fuel) (end_class c.args.name c.args.sup) c.loop-i.first c.loop-i.last c.loop-i.first_static c.loop-i.last_static) c.loop-i.s c.loop-i.errors c.loop-i.nodes
+methods_again : (t : ℕ) (c : goal.methods-After-slice_known-in-Some-matches-3-1 t) → run (view c.args.t.now) (lower (view c.args.t.now) c.args.levels) (methods_from (view c.args.t.now) c.loop-i.invariant.fuel (end_class c.args.name c.args.sup) c.loop-i.list.first c.loop-i.list.last c.and-statics.result.first c.and-statics.result.last) c.in_ok-q.q c.fn_stmt.new.errors c.and-statics.new.nodes ≡ run (view c.args.t.now) (lower (view c.args.t.now) c.args.levels) (methods_from (view c.args.t.now) (suc c.loop-i.invariant.fuel) (end_class c.args.name c.args.sup) c.loop-i.list.first c.loop-i.list.last c.loop-i.statics.first c.loop-i.statics.last) c.loop-i.s c.loop-i.errors c.loop-i.nodes
 unfolding run methods_from
-methods_again t c = rw (← c.check.ensures, c.in_default.is, ← c.is_at_end.ensures) (rw (c.if-is_at_end.false, ← c.matches.ensures, c.in-Some-matches.is) (rw (← (rw c.looked-u.ensures at c.at_token-in-Some-matches.ensures), ← c.fn_stmt.ensures, c.in_ok-q.was) (rw (← c.link.ensures, ← c.first_of-first_static.ensures))))
+methods_again t c = rw (← c.check.ensures, c.in_default.is, ← c.is_at_end.ensures) (rw (c.if-is_at_end.false, ← c.matches.ensures, c.in-Some-matches.is) (rw (← (rw c.looked-u.ensures at c.at_token-in-Some-matches.ensures), ← c.fn_stmt.ensures, c.in_ok-q.was) (rw (← c.and-statics.ensures.next, c.and-statics.ensures.members))))
 
 pub methods-loop-i-preserved-in-Some-matches : goal.methods-loop-i-preserved-in-Some-matches
 methods-loop-i-preserved-in-Some-matches t c =
     let g = methods_turn t c in
     let f : suc (c.loop-i.invariant.fuel - 1) ≡ c.loop-i.invariant.fuel = omega (arith, c.loop-i.invariant.enough) in
-    record { fuel = c.loop-i.invariant.fuel - 1; enough = omega (arith, c.loop-i.invariant.enough); same = rw f (methods_again t c ∙ c.loop-i.invariant.same); errors = c.fn_stmt.auto.errors ∙ c.loop-i.invariant.errors; nodes = c.link.auto.nodes ∙ c.fn_stmt.auto.nodes ∙ c.loop-i.invariant.nodes }
+    record { fuel = c.loop-i.invariant.fuel - 1; enough = omega (arith, c.loop-i.invariant.enough); same = rw f (methods_again t c ∙ c.loop-i.invariant.same); errors = c.fn_stmt.auto.errors ∙ c.loop-i.invariant.errors; nodes = c.and-statics.auto.nodes ∙ c.fn_stmt.auto.nodes ∙ c.loop-i.invariant.nodes }
 
 pub methods-returns-in_err-q-2 : goal.methods-returns-in_err-q-2
 unfolding run methods_from
 methods-returns-in_err-q-2 t c = rw (given_up _ _ c.from_residual-in_err-q-2.ensures.1) (rw (← c.loop-i.invariant.same, ← c.check.ensures, c.in_default.is) (rw (← c.is_at_end.ensures, c.if-is_at_end.false, ← c.matches.ensures) (rw (c.in_default-matches.is, ← (rw c.looked-u.ensures at c.looked.ensures), ← c.fn_stmt-in_default-matches.ensures) (rw c.in_err-q-2.was))))
 
-methods_turn_2 : (t : ℕ) (c : goal.methods-After-first_of-first t) → (c.loop-i.s.current < c.in_ok-q-2.q.current) × (c.loop-i.s.current < count c.args.t.now.table.now)
+methods_turn_2 : (t : ℕ) (c : goal.methods-After-slice_known-in_default-matches-3-1 t) → (c.loop-i.s.current < c.in_ok-q-2.q.current) × (c.loop-i.s.current < count c.args.t.now.table.now)
 unfolding moves fn_stmt
 methods_turn_2 t c = let g = gave_past (view c.args.t.now) c.args.levels (fn_stmt (view c.args.t.now)) _ _ _ _ _ _ _ _ refl (rw c.in_ok-q-2.was at c.fn_stmt-in_default-matches.ensures) refl in let a = ap (λ (x : State). x.current) c.looked-u.ensures in let b = ap (λ (x : State). x.current) c.looked.ensures in (omega (arith, g.1, a, b), omega (arith, g.0, a, b))
 
 pub methods-loop-i-smaller : goal.methods-loop-i-smaller
 methods-loop-i-smaller t c = let g = methods_turn_2 t c in omega arith
 
-methods_again_2 : (t : ℕ) (c : goal.methods-After-first_of-first t) → run (view c.args.t.now) (lower (view c.args.t.now) c.args.levels) (methods_from (view c.args.t.now) c.loop-i.invariant.fuel (end_class c.args.name c.args.sup) c.first_of-first.result c.in_ok-q-2.n.node c.loop-i.first_static c.loop-i.last_static) c.in_ok-q-2.q c.fn_stmt-in_default-matches.new.errors c.link-in_default-matches.new.nodes ≡ run (view c.args.t.now) (lower (view c.args.t.now) c.args.levels) (methods_from (view c.args.t.now) (suc c.loop-i.invariant.fuel) (end_class c.args.name c.args.sup) c.loop-i.first c.loop-i.last c.loop-i.first_static c.loop-i.last_static) c.loop-i.s c.loop-i.errors c.loop-i.nodes
+methods_again_2 : (t : ℕ) (c : goal.methods-After-slice_known-in_default-matches-3-1 t) → run (view c.args.t.now) (lower (view c.args.t.now) c.args.levels) (methods_from (view c.args.t.now) c.loop-i.invariant.fuel (end_class c.args.name c.args.sup) c.and-list.result.first c.and-list.result.last c.loop-i.statics.first c.loop-i.statics.last) c.in_ok-q-2.q c.fn_stmt-in_default-matches.new.errors c.and-list.new.nodes ≡ run (view c.args.t.now) (lower (view c.args.t.now) c.args.levels) (methods_from (view c.args.t.now) (suc c.loop-i.invariant.fuel) (end_class c.args.name c.args.sup) c.loop-i.list.first c.loop-i.list.last c.loop-i.statics.first c.loop-i.statics.last) c.loop-i.s c.loop-i.errors c.loop-i.nodes
 unfolding run methods_from
-methods_again_2 t c = rw (← c.check.ensures, c.in_default.is, ← c.is_at_end.ensures) (rw (c.if-is_at_end.false, ← c.matches.ensures, c.in_default-matches.is) (rw (← (rw c.looked-u.ensures at c.looked.ensures), ← c.fn_stmt-in_default-matches.ensures, c.in_ok-q-2.was) (rw (← c.link-in_default-matches.ensures, ← c.first_of-first.ensures))))
+methods_again_2 t c = rw (← c.check.ensures, c.in_default.is, ← c.is_at_end.ensures) (rw (c.if-is_at_end.false, ← c.matches.ensures, c.in_default-matches.is) (rw (← (rw c.looked-u.ensures at c.looked.ensures), ← c.fn_stmt-in_default-matches.ensures, c.in_ok-q-2.was) (rw (← c.and-list.ensures.next, c.and-list.ensures.members))))
 
 pub methods-loop-i-preserved : goal.methods-loop-i-preserved
 methods-loop-i-preserved t c =
     let g = methods_turn_2 t c in
     let f : suc (c.loop-i.invariant.fuel - 1) ≡ c.loop-i.invariant.fuel = omega (arith, c.loop-i.invariant.enough) in
-    record { fuel = c.loop-i.invariant.fuel - 1; enough = omega (arith, c.loop-i.invariant.enough); same = rw f (methods_again_2 t c ∙ c.loop-i.invariant.same); errors = c.fn_stmt-in_default-matches.auto.errors ∙ c.loop-i.invariant.errors; nodes = c.link-in_default-matches.auto.nodes ∙ c.fn_stmt-in_default-matches.auto.nodes ∙ c.loop-i.invariant.nodes }
+    record { fuel = c.loop-i.invariant.fuel - 1; enough = omega (arith, c.loop-i.invariant.enough); same = rw f (methods_again_2 t c ∙ c.loop-i.invariant.same); errors = c.fn_stmt-in_default-matches.auto.errors ∙ c.loop-i.invariant.errors; nodes = c.and-list.auto.nodes ∙ c.fn_stmt-in_default-matches.auto.nodes ∙ c.loop-i.invariant.nodes }
 
 -- ---- pairs
 pub pairs-loop-i-init : goal.pairs-loop-i-init
@@ -659,7 +659,7 @@ pairs-returns-in_err-u t c = rw (given_up _ _ c.from_residual-in_err-u.ensures.1
 
 pub pairs-returns-in_default-matches : goal.pairs-returns-in_default-matches
 unfolding run dict_elements_from
-pairs-returns-in_default-matches t c = rw (← c.loop-i.invariant.same, ← c.check.ensures, c.in_default.is) (rw (← c.looked.ensures, ← c.assignment.ensures, c.in_ok-q.was) (rw (← c.consume.ensures c.assignment.new.nodes, c.in_ok-q-2.was, ← c.assignment-in-loop-i.ensures) (rw (c.in_ok-u.was, ← c.link.ensures, ← c.link-in-loop-i.ensures) (rw (← c.first_of-first.ensures, ← c.matches.ensures, c.in_default-matches.is) (rw (← c.looked-in_default-matches.ensures, c.gives-in_default-matches.ensures))))))
+pairs-returns-in_default-matches t c = rw (← c.loop-i.invariant.same, ← c.check.ensures, c.in_default.is) (rw (← c.looked.ensures, ← c.assignment.ensures, c.in_ok-q.was) (rw (← c.consume.ensures c.assignment.new.nodes, c.in_ok-q-2.was, ← c.assignment-in-loop-i.ensures) (rw (c.in_ok-u.was, ← c.and-list.ensures.next, ← c.link.ensures) (rw (← c.matches.ensures, c.in_default-matches.is) (rw (← c.looked-in_default-matches.ensures, c.gives-in_default-matches.ensures, c.and-list.ensures.members))))))
 
 pairs_turn : (t : ℕ) (c : goal.pairs-After-at_token-s t) → (c.loop-i.s.current < c.at_token-s.result.current) × (c.loop-i.s.current < count c.args.t.now.table.now)
 pairs_turn t c =
@@ -674,22 +674,22 @@ pairs_turn t c =
 pub pairs-loop-i-smaller : goal.pairs-loop-i-smaller
 pairs-loop-i-smaller t c = let g = pairs_turn t c in omega arith
 
-pairs_again : (t : ℕ) (c : goal.pairs-After-at_token-s t) → run (view c.args.t.now) (lower (view c.args.t.now) c.args.levels) (dict_elements_from (view c.args.t.now) c.loop-i.invariant.fuel c.first_of-first.result c.in_ok-u.value.node) c.at_token-s.result c.assignment-in-loop-i.new.errors c.link-in-loop-i.new.nodes ≡ run (view c.args.t.now) (lower (view c.args.t.now) c.args.levels) (dict_elements_from (view c.args.t.now) (suc c.loop-i.invariant.fuel) c.loop-i.first c.loop-i.last) c.loop-i.s c.loop-i.errors c.loop-i.nodes
+pairs_again : (t : ℕ) (c : goal.pairs-After-at_token-s t) → run (view c.args.t.now) (lower (view c.args.t.now) c.args.levels) (dict_elements_from (view c.args.t.now) c.loop-i.invariant.fuel c.and-list.result.first c.in_ok-u.value.node) c.at_token-s.result c.assignment-in-loop-i.new.errors c.link.new.nodes ≡ run (view c.args.t.now) (lower (view c.args.t.now) c.args.levels) (dict_elements_from (view c.args.t.now) (suc c.loop-i.invariant.fuel) c.loop-i.list.first c.loop-i.list.last) c.loop-i.s c.loop-i.errors c.loop-i.nodes
 unfolding run dict_elements_from
-pairs_again t c = rw (← c.check.ensures, c.in_default.is, ← c.looked.ensures) (rw (← c.assignment.ensures, c.in_ok-q.was, ← c.consume.ensures c.assignment.new.nodes) (rw (c.in_ok-q-2.was, ← c.assignment-in-loop-i.ensures, c.in_ok-u.was) (rw (← c.link.ensures, ← c.link-in-loop-i.ensures, ← c.first_of-first.ensures) (rw (← c.matches.ensures, c.in-Some-matches.is, ← c.at_token-s.ensures)))))
+pairs_again t c = rw (← c.check.ensures, c.in_default.is, ← c.looked.ensures) (rw (← c.assignment.ensures, c.in_ok-q.was, ← c.consume.ensures c.assignment.new.nodes) (rw (c.in_ok-q-2.was, ← c.assignment-in-loop-i.ensures, c.in_ok-u.was) (rw (← c.and-list.ensures.next, ← c.link.ensures, c.and-list.ensures.members) (rw (← c.matches.ensures, c.in-Some-matches.is, ← c.at_token-s.ensures)))))
 
 pub pairs-loop-i-preserved : goal.pairs-loop-i-preserved
 pairs-loop-i-preserved t c =
     let g = pairs_turn t c in
     let f : suc (c.loop-i.invariant.fuel - 1) ≡ c.loop-i.invariant.fuel = omega (arith, c.loop-i.invariant.enough) in
-    record { fuel = c.loop-i.invariant.fuel - 1; enough = omega (arith, c.loop-i.invariant.enough); same = rw f (pairs_again t c ∙ c.loop-i.invariant.same); errors = c.assignment-in-loop-i.auto.errors ∙ c.consume.auto.errors ∙ c.assignment.auto.errors ∙ c.loop-i.invariant.errors; nodes = c.link-in-loop-i.auto.nodes ∙ c.link.auto.nodes ∙ c.assignment-in-loop-i.auto.nodes ∙ c.assignment.auto.nodes ∙ c.loop-i.invariant.nodes }
+    record { fuel = c.loop-i.invariant.fuel - 1; enough = omega (arith, c.loop-i.invariant.enough); same = rw f (pairs_again t c ∙ c.loop-i.invariant.same); errors = c.assignment-in-loop-i.auto.errors ∙ c.consume.auto.errors ∙ c.assignment.auto.errors ∙ c.loop-i.invariant.errors; nodes = c.link.auto.nodes ∙ c.and-list.auto.nodes ∙ c.assignment-in-loop-i.auto.nodes ∙ c.assignment.auto.nodes ∙ c.loop-i.invariant.nodes }
 
 -- ---- primary
-pub primary-returns-then-n-ne0 : goal.primary-returns-then-n-ne0
+pub primary-returns-in-Some : goal.primary-returns-in-Some
 unfolding run
-primary-returns-then-n-ne0 t c =
+primary-returns-in-Some t c =
     let n = peeked (view c.args.t.now) c.args.p.current _ c.peek-coming.ensures in
-    let h = primary_literal (view c.args.t.now) (lower (view c.args.t.now) c.args.levels) c.args.p c.args.errors.now c.args.nodes.now _ _ n _ c.literal_place-n.ensures c.if-n-ne0.true in
+    let h = primary_literal (view c.args.t.now) (lower (view c.args.t.now) c.args.levels) c.args.p c.args.errors.now c.args.nodes.now _ _ n _ (placed _ _ _ c.literal_place.ensures c.in-Some.is).0 (placed _ _ _ c.literal_place.ensures c.in-Some.is).1 in
     rw (h, ← c.at_token.ensures, ← c.row.ensures) (rw (← c.make.ensures c.args.errors.now))
 
 pub primary-returns-then-kind-eq-IDENTIFIER : goal.primary-returns-then-kind-eq-IDENTIFIER
@@ -748,19 +748,19 @@ primary-returns-then-kind-eq-SUPER t c =
     let h = primary_super (view c.args.t.now) (lower (view c.args.t.now) c.args.levels) c.args.p c.args.errors.now c.args.nodes.now _ _ n c.if-kind-eq-SUPER.true in
     rw (h) (rw c.at_token-then-kind-eq-SUPER.ensures at (c.super_expr.ensures (lower (view c.args.t.now) c.args.levels)))
 
-pub primary-returns-in-Some : goal.primary-returns-in-Some
+pub primary-returns-in-Some-matches : goal.primary-returns-in-Some-matches
 unfolding run
-primary-returns-in-Some t c =
+primary-returns-in-Some-matches t c =
     let n = peeked (view c.args.t.now) c.args.p.current _ c.peek-coming.ensures in
-    let h = primary_else (view c.args.t.now) (lower (view c.args.t.now) c.args.levels) c.args.p c.args.errors.now c.args.nodes.now _ _ n _ c.literal_place-n.ensures c.if-n-ne0.false c.if-kind-eq-IDENTIFIER.false c.if-kind-eq-LEFT_PAREN.false c.if-kind-eq-LEFT_BRACE.false c.if-kind-eq-LEFT_CURLY_BRACE.false c.if-kind-eq-FN.false c.if-kind-eq-THIS.false c.if-kind-eq-SUPER.false in
-    rw (h, ← c.matches.ensures, c.in-Some.is) (rw (← (rw c.looked-s.ensures at c.at_token-in-Some.ensures), ← c.empty.ensures c.args.errors.now))
+    let h = primary_else (view c.args.t.now) (lower (view c.args.t.now) c.args.levels) c.args.p c.args.errors.now c.args.nodes.now _ _ n _ (unplaced _ _ c.literal_place.ensures c.in_default.is) refl c.if-kind-eq-IDENTIFIER.false c.if-kind-eq-LEFT_PAREN.false c.if-kind-eq-LEFT_BRACE.false c.if-kind-eq-LEFT_CURLY_BRACE.false c.if-kind-eq-FN.false c.if-kind-eq-THIS.false c.if-kind-eq-SUPER.false in
+    rw (h, ← c.matches.ensures, c.in-Some-matches.is) (rw (← (rw c.looked-s.ensures at c.at_token-in-Some-matches.ensures), ← c.empty.ensures c.args.errors.now))
 
 pub primary-returns : goal.primary-returns
 unfolding run
 primary-returns t c =
     let n = peeked (view c.args.t.now) c.args.p.current _ c.peek-coming.ensures in
-    let h = primary_else (view c.args.t.now) (lower (view c.args.t.now) c.args.levels) c.args.p c.args.errors.now c.args.nodes.now _ _ n _ c.literal_place-n.ensures c.if-n-ne0.false c.if-kind-eq-IDENTIFIER.false c.if-kind-eq-LEFT_PAREN.false c.if-kind-eq-LEFT_BRACE.false c.if-kind-eq-LEFT_CURLY_BRACE.false c.if-kind-eq-FN.false c.if-kind-eq-THIS.false c.if-kind-eq-SUPER.false in
-    rw (h, ← c.matches.ensures, c.in_default.is) (rw (← (rw c.looked-s.ensures at c.looked.ensures), ← c.fatal.ensures c.args.nodes.now))
+    let h = primary_else (view c.args.t.now) (lower (view c.args.t.now) c.args.levels) c.args.p c.args.errors.now c.args.nodes.now _ _ n _ (unplaced _ _ c.literal_place.ensures c.in_default.is) refl c.if-kind-eq-IDENTIFIER.false c.if-kind-eq-LEFT_PAREN.false c.if-kind-eq-LEFT_BRACE.false c.if-kind-eq-LEFT_CURLY_BRACE.false c.if-kind-eq-FN.false c.if-kind-eq-THIS.false c.if-kind-eq-SUPER.false in
+    rw (h, ← c.matches.ensures, c.in_default-matches.is) (rw (← (rw c.looked-s.ensures at c.looked.ensures), ← c.fatal.ensures c.args.nodes.now))
 
 -- ---- ret
 pub ret-returns-in-Some : goal.ret-returns-in-Some
@@ -905,7 +905,7 @@ pub unary-returns-then-levels-eq0 : goal.unary-returns-then-levels-eq0
 unfolding run
 unary-returns-then-levels-eq0 t c =
     let n = peeked (view c.args.t.now) c.args.p.current _ c.peek-coming.ensures in
-    let h = unary_prefix (view c.args.t.now) (lower (view c.args.t.now) c.args.levels) c.args.p c.args.errors.now c.args.nodes.now _ _ n _ c.prefix_place-n.ensures c.if-n-ne0.true in
+    let h = unary_prefix (view c.args.t.now) (lower (view c.args.t.now) c.args.levels) c.args.p c.args.errors.now c.args.nodes.now _ _ n _ (placed _ _ _ c.prefix_place.ensures c.in-Some.is).0 (placed _ _ _ c.prefix_place.ensures c.in-Some.is).1 in
     let z = lower_zero (view c.args.t.now) c.args.levels Operand c.at_token-q.result c.args.errors.now c.args.nodes.now c.if-levels-eq0.true in
     rw (h, ← c.at_token-q.ensures, c.stops.ensures) (rw (z))
 
@@ -913,22 +913,22 @@ pub unary-returns-in_err-s : goal.unary-returns-in_err-s
 unfolding run body
 unary-returns-in_err-s t c =
     let n = peeked (view c.args.t.now) c.args.p.current _ c.peek-coming.ensures in
-    let h = unary_prefix (view c.args.t.now) (lower (view c.args.t.now) c.args.levels) c.args.p c.args.errors.now c.args.nodes.now _ _ n _ c.prefix_place-n.ensures c.if-n-ne0.true in
+    let h = unary_prefix (view c.args.t.now) (lower (view c.args.t.now) c.args.levels) c.args.p c.args.errors.now c.args.nodes.now _ _ n _ (placed _ _ _ c.prefix_place.ensures c.in-Some.is).0 (placed _ _ _ c.prefix_place.ensures c.in-Some.is).1 in
     let z = lower_step (view c.args.t.now) c.args.levels Operand c.at_token-q.result c.args.errors.now c.args.nodes.now c.if-levels-eq0.false in
     rw (given_up _ _ c.from_residual.ensures.1) (rw (h, ← c.at_token-q.ensures) (rw (z, ← c.unary.ensures, c.in_err-s.was)))
 
-pub unary-returns-then-n-ne0 : goal.unary-returns-then-n-ne0
+pub unary-returns-in-Some : goal.unary-returns-in-Some
 unfolding run body
-unary-returns-then-n-ne0 t c =
+unary-returns-in-Some t c =
     let n = peeked (view c.args.t.now) c.args.p.current _ c.peek-coming.ensures in
-    let h = unary_prefix (view c.args.t.now) (lower (view c.args.t.now) c.args.levels) c.args.p c.args.errors.now c.args.nodes.now _ _ n _ c.prefix_place-n.ensures c.if-n-ne0.true in
+    let h = unary_prefix (view c.args.t.now) (lower (view c.args.t.now) c.args.levels) c.args.p c.args.errors.now c.args.nodes.now _ _ n _ (placed _ _ _ c.prefix_place.ensures c.in-Some.is).0 (placed _ _ _ c.prefix_place.ensures c.in-Some.is).1 in
     let z = lower_step (view c.args.t.now) c.args.levels Operand c.at_token-q.result c.args.errors.now c.args.nodes.now c.if-levels-eq0.false in
     rw (h, ← c.at_token-q.ensures, z) (rw (← c.unary.ensures, c.in_ok-s.was, ← c.row.ensures) (rw (← c.make.ensures c.unary.new.errors)))
 
 pub unary-returns : goal.unary-returns
 unary-returns t c =
     let n = peeked (view c.args.t.now) c.args.p.current _ c.peek-coming.ensures in
-    let h = unary_else (view c.args.t.now) (lower (view c.args.t.now) c.args.levels) c.args.p c.args.errors.now c.args.nodes.now _ _ n _ c.prefix_place-n.ensures c.if-n-ne0.false in
+    let h = unary_else (view c.args.t.now) (lower (view c.args.t.now) c.args.levels) c.args.p c.args.errors.now c.args.nodes.now _ _ n _ (unplaced _ _ c.prefix_place.ensures c.in_default.is) refl in
     rw (h, ← c.looked.ensures, ← c.call.ensures)
 
 -- ---- upto

@@ -102,7 +102,7 @@ pub record ArgumentsInv (T : View) (l mark : ℕ) (E₀ N₀ : List ℕ) (s₀ :
   pub nodes : length N ≡ length N₀
 
 abbrev pub invariant-arguments-loop-n : goal.invariant-arguments-loop-n
-invariant-arguments-loop-n l = ArgumentsInv (view l.t) l.levels l.mark l.initial.errors l.initial.nodes l.initial.s l.errors l.nodes l.s l.first l.last l.n
+invariant-arguments-loop-n l = ArgumentsInv (view l.t) l.levels l.mark l.initial.errors l.initial.nodes l.initial.s l.errors l.nodes l.s l.list.first l.list.last l.n
 
 abbrev pub decreases-arguments-loop-n : goal.decreases-arguments-loop-n
 decreases-arguments-loop-n l = count l.t.table.now - l.s.current
@@ -135,7 +135,7 @@ pub record BlockInv (T : View) (l : ℕ) (E₀ N₀ : List ℕ) (s₀ : State) (
   pub nodes : length N ≡ length N₀
 
 abbrev pub invariant-block-loop-i : goal.invariant-block-loop-i
-invariant-block-loop-i l = BlockInv (view l.t) l.levels l.initial.errors l.initial.nodes l.initial.s l.errors l.nodes l.s l.first l.last
+invariant-block-loop-i l = BlockInv (view l.t) l.levels l.initial.errors l.initial.nodes l.initial.s l.errors l.nodes l.s l.list.first l.list.last
 
 abbrev pub decreases-block-loop-i : goal.decreases-block-loop-i
 decreases-block-loop-i l = count l.t.table.now - l.s.current
@@ -167,7 +167,7 @@ pub record ElifsInv (T : View) (l : ℕ) (E₀ N₀ : List ℕ) (s₀ : State) (
   pub nodes : length N ≡ length N₀
 
 abbrev pub invariant-elifs-loop-i : goal.invariant-elifs-loop-i
-invariant-elifs-loop-i l = ElifsInv (view l.t) l.levels l.initial.errors l.initial.nodes l.initial.s l.errors l.nodes l.s l.first l.last
+invariant-elifs-loop-i l = ElifsInv (view l.t) l.levels l.initial.errors l.initial.nodes l.initial.s l.errors l.nodes l.s l.list.first l.list.last
 
 abbrev pub decreases-elifs-loop-i : goal.decreases-elifs-loop-i
 decreases-elifs-loop-i l = count l.t.table.now - l.s.current
@@ -181,7 +181,7 @@ pub record MethodsInv (T : View) (l name sup : ℕ) (E₀ N₀ : List ℕ) (s₀
   pub nodes : length N ≡ length N₀
 
 abbrev pub invariant-methods-loop-i : goal.invariant-methods-loop-i
-invariant-methods-loop-i l = MethodsInv (view l.t) l.levels l.name l.sup l.initial.errors l.initial.nodes l.initial.s l.errors l.nodes l.s l.first l.last l.first_static l.last_static
+invariant-methods-loop-i l = MethodsInv (view l.t) l.levels l.name l.sup l.initial.errors l.initial.nodes l.initial.s l.errors l.nodes l.s l.list.first l.list.last l.statics.first l.statics.last
 
 abbrev pub decreases-methods-loop-i : goal.decreases-methods-loop-i
 decreases-methods-loop-i l = count l.t.table.now - l.s.current
@@ -195,7 +195,7 @@ pub record PairsInv (T : View) (l : ℕ) (E₀ N₀ : List ℕ) (s₀ : State) (
   pub nodes : length N ≡ length N₀
 
 abbrev pub invariant-pairs-loop-i : goal.invariant-pairs-loop-i
-invariant-pairs-loop-i l = PairsInv (view l.t) l.levels l.initial.errors l.initial.nodes l.initial.s l.errors l.nodes l.s l.first l.last
+invariant-pairs-loop-i l = PairsInv (view l.t) l.levels l.initial.errors l.initial.nodes l.initial.s l.errors l.nodes l.s l.list.first l.list.last
 
 abbrev pub decreases-pairs-loop-i : goal.decreases-pairs-loop-i
 decreases-pairs-loop-i l = count l.t.table.now - l.s.current

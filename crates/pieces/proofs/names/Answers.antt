@@ -29,10 +29,10 @@ loop-i-smaller-in-Some-matches c =
 
 -- the turn is one of the definition's
 again : (c : goal.After-at_token-s) (low : Which → Reader) (E : List ℕ)
-    → run (view c.args.t.now) low (names_from (view c.args.t.now) c.loop-i.invariant.fuel c.first_of-first.result c.in_ok-u.n.node) c.at_token-s.result E c.link.new.nodes
-    ≡ run (view c.args.t.now) low (names_from (view c.args.t.now) (suc c.loop-i.invariant.fuel) c.loop-i.first c.loop-i.last) c.loop-i.s E c.loop-i.nodes
+    → run (view c.args.t.now) low (names_from (view c.args.t.now) c.loop-i.invariant.fuel c.and-list.result.first c.and-list.result.last) c.at_token-s.result E c.and-list.new.nodes
+    ≡ run (view c.args.t.now) low (names_from (view c.args.t.now) (suc c.loop-i.invariant.fuel) c.loop-i.list.first c.loop-i.list.last) c.loop-i.s E c.loop-i.nodes
 unfolding run names_from
-again c low E = rw (← c.matches.ensures, c.in-Some.is) (rw (← c.at_token.ensures, ← c.row.ensures, ← c.make.ensures E, c.in_ok-u.was) (rw (← c.link.ensures, ← c.first_of-first.ensures, ← c.matches-in-loop-i.ensures, c.in-Some-matches.is) (rw (← c.at_token-s.ensures))))
+again c low E = rw (← c.matches.ensures, c.in-Some.is) (rw (← c.at_token.ensures, ← c.row.ensures, ← c.make.ensures E, c.in_ok-u.was) (rw (← c.and-list.ensures.next, c.and-list.ensures.members, ← c.matches-in-loop-i.ensures, c.in-Some-matches.is) (rw (← c.at_token-s.ensures))))
 
 pub loop-i-preserved-in-Some-matches : goal.loop-i-preserved-in-Some-matches
 loop-i-preserved-in-Some-matches c =
@@ -46,7 +46,7 @@ loop-i-preserved-in-Some-matches c =
       fuel = c.loop-i.invariant.fuel - 1;
       enough = omega (arith, c.loop-i.invariant.enough);
       same = λ low E. rw f (again c low E ∙ c.loop-i.invariant.same low E);
-      nodes = c.link.auto.nodes ∙ c.make.auto.nodes ∙ c.loop-i.invariant.nodes;
+      nodes = c.and-list.auto.nodes ∙ c.make.auto.nodes ∙ c.loop-i.invariant.nodes;
     }
 
 pub loop-i-smaller : goal.loop-i-smaller
@@ -59,10 +59,10 @@ loop-i-smaller c =
 
 -- the turn is one of the definition's
 again_2 : (c : goal.After-looked-s) (low : Which → Reader) (E : List ℕ)
-    → run (view c.args.t.now) low (names_from (view c.args.t.now) c.loop-i.invariant.fuel c.first_of-first.result c.in_ok-u.n.node) c.looked-s.result E c.link.new.nodes
-    ≡ run (view c.args.t.now) low (names_from (view c.args.t.now) (suc c.loop-i.invariant.fuel) c.loop-i.first c.loop-i.last) c.loop-i.s E c.loop-i.nodes
+    → run (view c.args.t.now) low (names_from (view c.args.t.now) c.loop-i.invariant.fuel c.and-list.result.first c.and-list.result.last) c.looked-s.result E c.and-list.new.nodes
+    ≡ run (view c.args.t.now) low (names_from (view c.args.t.now) (suc c.loop-i.invariant.fuel) c.loop-i.list.first c.loop-i.list.last) c.loop-i.s E c.loop-i.nodes
 unfolding run names_from
-again_2 c low E = rw (← c.matches.ensures, c.in-Some.is) (rw (← c.at_token.ensures, ← c.row.ensures, ← c.make.ensures E, c.in_ok-u.was) (rw (← c.link.ensures, ← c.first_of-first.ensures, ← c.matches-in-loop-i.ensures, c.in-None.is) (rw (← c.looked-s.ensures))))
+again_2 c low E = rw (← c.matches.ensures, c.in-Some.is) (rw (← c.at_token.ensures, ← c.row.ensures, ← c.make.ensures E, c.in_ok-u.was) (rw (← c.and-list.ensures.next, c.and-list.ensures.members, ← c.matches-in-loop-i.ensures, c.in-None.is) (rw (← c.looked-s.ensures))))
 
 pub loop-i-preserved : goal.loop-i-preserved
 loop-i-preserved c =
@@ -75,5 +75,5 @@ loop-i-preserved c =
       fuel = c.loop-i.invariant.fuel - 1;
       enough = omega (arith, c.loop-i.invariant.enough);
       same = λ low E. rw f (again_2 c low E ∙ c.loop-i.invariant.same low E);
-      nodes = c.link.auto.nodes ∙ c.make.auto.nodes ∙ c.loop-i.invariant.nodes;
+      nodes = c.and-list.auto.nodes ∙ c.make.auto.nodes ∙ c.loop-i.invariant.nodes;
     }

@@ -13,7 +13,7 @@ pub record NamesInv (T : View) (N₀ : List ℕ) (s₀ : State) (N : List ℕ) (
   pub nodes : length N ≡ length N₀
 
 abbrev pub invariant-loop-i : goal.invariant-loop-i
-invariant-loop-i l = NamesInv (view l.t) l.initial.nodes l.initial.s l.nodes l.s l.first l.last
+invariant-loop-i l = NamesInv (view l.t) l.initial.nodes l.initial.s l.nodes l.s l.list.first l.list.last
 
 abbrev pub decreases-loop-i : goal.decreases-loop-i
 decreases-loop-i l = count l.t.table.now - l.s.current

@@ -37,7 +37,7 @@ pub returns-in_default-matches : goal.returns-in_default-matches
 unfolding run parameters parameters_from
 returns-in_default-matches c = λ low.
     let h : nat_lt 255 c.loop-n.n ≡ false = le-ltb _ _ (omega arith) in
-    rw (← c.check.ensures, c.in_default.is) (rw (← c.looked-s.ensures, ← c.loop-n.invariant.same low, h, ← c.require.ensures c.loop-n.nodes, c.in_ok-q.was) (rw (← c.row.ensures, ← c.make.ensures c.require.new.errors, c.in_ok-u.was) (rw (← c.link.ensures, ← c.first_of-first.ensures, ← c.matches.ensures, c.in_default-matches.is) (rw (← c.looked.ensures, c.gives-in_default-matches.ensures)))))
+    rw (← c.check.ensures, c.in_default.is) (rw (← c.looked-s.ensures, ← c.loop-n.invariant.same low, h, ← c.require.ensures c.loop-n.nodes, c.in_ok-q.was) (rw (← c.row.ensures, ← c.make.ensures c.require.new.errors, c.in_ok-u.was) (rw (← c.and-list.ensures.next, ← c.matches.ensures, c.in_default-matches.is) (rw (← c.looked.ensures, c.gives-in_default-matches.ensures, c.and-list.ensures.members)))))
 
 pub loop-n-smaller : goal.loop-n-smaller
 loop-n-smaller c =
@@ -49,12 +49,12 @@ loop-n-smaller c =
 
 -- the turn is one of the definition's
 again : (c : goal.After-at_token-s) (low : Which → Reader)
-    → run (view c.args.t.now) low (parameters_from (view c.args.t.now) c.args.message c.loop-n.invariant.fuel (c.loop-n.n + 1) c.first_of-first.result c.in_ok-u.d.node) c.at_token-s.result c.require.new.errors c.link.new.nodes
-    ≡ run (view c.args.t.now) low (parameters_from (view c.args.t.now) c.args.message (suc c.loop-n.invariant.fuel) c.loop-n.n c.loop-n.first c.loop-n.last) c.loop-n.s c.loop-n.errors c.loop-n.nodes
+    → run (view c.args.t.now) low (parameters_from (view c.args.t.now) c.args.message c.loop-n.invariant.fuel (c.loop-n.n + 1) c.and-list.result.first c.and-list.result.last) c.at_token-s.result c.require.new.errors c.and-list.new.nodes
+    ≡ run (view c.args.t.now) low (parameters_from (view c.args.t.now) c.args.message (suc c.loop-n.invariant.fuel) c.loop-n.n c.loop-n.list.first c.loop-n.list.last) c.loop-n.s c.loop-n.errors c.loop-n.nodes
 unfolding run parameters_from
 again c low =
     let l : nat_lt 255 c.loop-n.n ≡ false = le-ltb _ _ (omega arith) in
-    rw (l, ← c.require.ensures c.loop-n.nodes, c.in_ok-q.was) (rw (← c.row.ensures, ← c.make.ensures c.require.new.errors, c.in_ok-u.was) (rw (← c.link.ensures, ← c.first_of-first.ensures, ← c.matches.ensures, c.in-Some-matches.is) (rw (← c.at_token-s.ensures))))
+    rw (l, ← c.require.ensures c.loop-n.nodes, c.in_ok-q.was) (rw (← c.row.ensures, ← c.make.ensures c.require.new.errors, c.in_ok-u.was) (rw (← c.and-list.ensures.next, c.and-list.ensures.members, ← c.matches.ensures, c.in-Some-matches.is) (rw (← c.at_token-s.ensures))))
 
 pub loop-n-preserved : goal.loop-n-preserved
 loop-n-preserved c =
@@ -68,5 +68,5 @@ loop-n-preserved c =
       enough = omega (arith, c.loop-n.invariant.enough);
       same = λ low. rw f (again c low ∙ c.loop-n.invariant.same low);
       errors = c.require.auto.errors ∙ c.loop-n.invariant.errors;
-      nodes = c.link.auto.nodes ∙ c.make.auto.nodes ∙ c.loop-n.invariant.nodes;
+      nodes = c.and-list.auto.nodes ∙ c.make.auto.nodes ∙ c.loop-n.invariant.nodes;
     }

@@ -14,7 +14,7 @@ pub record ParametersInv (T : View) (message : ℕ) (E₀ N₀ : List ℕ) (s₀
   pub nodes : length N ≡ length N₀
 
 abbrev pub invariant-loop-n : goal.invariant-loop-n
-invariant-loop-n l = ParametersInv (view l.t) l.message l.initial.errors l.initial.nodes l.initial.s l.errors l.nodes l.s l.first l.last l.n
+invariant-loop-n l = ParametersInv (view l.t) l.message l.initial.errors l.initial.nodes l.initial.s l.errors l.nodes l.s l.list.first l.list.last l.n
 
 abbrev pub decreases-loop-n : goal.decreases-loop-n
 decreases-loop-n l = count l.t.table.now - l.s.current
