@@ -6,7 +6,7 @@ ghost use Rattle.parser.specs.Tokens.{indexed, view};
 ghost use Rattle.parser.specs.Tables.{answered};
 ghost use Rattle.parser.specs.Whole.{top_level, parsed, Parsing};
 
-use parser::{Out, Parsed, State, Tokens};
+use parser::{Members, Out, Parsed, State, Tokens};
 use records::{Message, Outcome};
 use token::Token;
 
@@ -23,8 +23,7 @@ pub fn parse(
 {
     let t = Tokens::new(tokens, index);
     let mut s = State::fresh(rule, recorded);
-    let mut first = 0;
-    let mut last = 0;
+    let mut list = Members::NONE;
     loop {
         let kept = s.nodes;
         if t.is_at_end(s) {
@@ -33,7 +32,7 @@ pub fn parse(
                 outcome: Outcome::Ended.into(),
                 errors: s.errors,
                 nodes: kept,
-                first,
+                first: list.first,
                 looks: s.looks,
             };
         }
@@ -44,14 +43,12 @@ pub fn parse(
                     outcome: stop.outcome.into(),
                     errors: stop.p.errors,
                     nodes: kept,
-                    first,
+                    first: list.first,
                     looks: stop.p.looks,
                 };
             }
             Ok((u, n)) => {
-                records::link(nodes, last, n.node);
-                first = parser::first_of(first, n.node);
-                last = n.node;
+                list = list.and(nodes, n.node);
                 s = u;
             }
         }

@@ -13,7 +13,7 @@ pub record ParseInv (T : View) (E₀ N₀ : List ℕ) (s₀ : State) (E N : List
   pub nodes : length N ≡ length N₀
 
 abbrev pub invariant-loop-t : goal.invariant-loop-t
-invariant-loop-t l = ParseInv (view l.t) l.initial.errors l.initial.nodes l.initial.s l.errors l.nodes l.s l.first l.last
+invariant-loop-t l = ParseInv (view l.t) l.initial.errors l.initial.nodes l.initial.s l.errors l.nodes l.s l.list.first l.list.last
 
 abbrev pub decreases-loop-t : goal.decreases-loop-t
 decreases-loop-t l = count l.t.table.now - l.s.current
