@@ -699,11 +699,27 @@ fn primary(t: &Tokens, errors: &mut [u32], nodes: &mut [u32], p: State, levels: 
             levels,
             Token::RIGHT_BRACE,
         );
-        return pieces::list(t, errors, nodes, g);
+        return pieces::collection(
+            t,
+            errors,
+            nodes,
+            g,
+            Token::RIGHT_BRACE,
+            Message::EXPECTED_END_OF_LIST,
+            Node::LIST,
+        );
     }
     if kind == Token::LEFT_CURLY_BRACE {
         let g = pairs(t, errors, nodes, p.at_token(j, 9), levels);
-        return pieces::dictionary(t, errors, nodes, g);
+        return pieces::collection(
+            t,
+            errors,
+            nodes,
+            g,
+            Token::RIGHT_CURLY_BRACE,
+            Message::EXPECTED_END_OF_DICT,
+            Node::DICTIONARY,
+        );
     }
     if kind == Token::FN {
         return fn_expr(t, errors, nodes, p.at_token(j, 10), levels);

@@ -47,6 +47,12 @@ grouping e = do
   consume right_paren_kind expect_paren_after_expression
   node (grouping_row e)
 
+-- what a collection comes to after its elements: its closing mark is asked for, then its node is made
+abbrev pub collection_end : ℕ → ℕ → ℕ → Found → Prog
+collection_end mark message kind elements = do
+  brace ← require mark message
+  node (row kind brace.node 0 0 elements.node 0 0 0)
+
 -- the rest of a list, after its elements
 abbrev pub list_end : Found → Prog
 list_end elements = do

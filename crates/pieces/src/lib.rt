@@ -275,31 +275,21 @@ pub fn before(token: u32) -> u32
     token.saturating_sub(1)
 }
 
-// `list`, after its elements.
-pub fn list(t: &Tokens, errors: &mut [u32], nodes: &mut [u32], elements: Out) -> Out
-    ensures { (low : Which → Reader) → answered result errors.new nodes.new ≡ and_then (answered elements errors.old nodes.old) λ e q E N. run (view t.now) low (pieces.list_end e) q E N }
+// `list` and `dictionary`, after their elements: the closing mark, with the message where it is missing, and the node of that kind.
+pub fn collection(
+    t: &Tokens,
+    errors: &mut [u32],
+    nodes: &mut [u32],
+    elements: Out,
+    mark: u32,
+    message: u32,
+    kind: u32,
+) -> Out
+    ensures { (low : Which → Reader) → answered result errors.new nodes.new ≡ and_then (answered elements errors.old nodes.old) λ e q E N. run (view t.now) low (pieces.collection_end mark message kind e) q E N }
 {
     let (q, e) = elements?;
-    let (s, mark) = t.require(errors, q, Token::RIGHT_BRACE, Message::EXPECTED_END_OF_LIST)?;
-    parser::make(nodes, s, row(Node::LIST, mark.node, 0, 0, e.node, 0, 0, 0))
-}
-
-// `dictionary`, after its elements.
-pub fn dictionary(t: &Tokens, errors: &mut [u32], nodes: &mut [u32], elements: Out) -> Out
-    ensures { (low : Which → Reader) → answered result errors.new nodes.new ≡ and_then (answered elements errors.old nodes.old) λ e q E N. run (view t.now) low (pieces.dictionary_end e) q E N }
-{
-    let (q, e) = elements?;
-    let (s, mark) = t.require(
-        errors,
-        q,
-        Token::RIGHT_CURLY_BRACE,
-        Message::EXPECTED_END_OF_DICT,
-    )?;
-    parser::make(
-        nodes,
-        s,
-        row(Node::DICTIONARY, mark.node, 0, 0, e.node, 0, 0, 0),
-    )
+    let (s, mark) = t.require(errors, q, mark, message)?;
+    parser::make(nodes, s, row(kind, mark.node, 0, 0, e.node, 0, 0, 0))
 }
 
 // The parts of an access: the object, the token of its opening brace, and up to three parts with the tokens of the colons between them; 0 for what is not there.

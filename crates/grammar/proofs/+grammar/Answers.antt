@@ -718,14 +718,14 @@ unfolding run list
 primary-returns-then-kind-eq-LEFT_BRACE t c =
     let n = peeked (view c.args.t.now) c.args.p.current _ c.peek-coming.ensures in
     let h = primary_leftbrace (view c.args.t.now) (lower (view c.args.t.now) c.args.levels) c.args.p c.args.errors.now c.args.nodes.now _ _ n c.if-kind-eq-LEFT_BRACE.true in
-    rw (h, ← c.at_token-then-kind-eq-LEFT_BRACE.ensures, ← c.arguments-g.ensures) (rw (← c.list.ensures (lower (view c.args.t.now) c.args.levels)))
+    rw (h, ← c.at_token-then-kind-eq-LEFT_BRACE.ensures, ← c.arguments-g.ensures) (rw (← c.collection.ensures (lower (view c.args.t.now) c.args.levels)))
 
 pub primary-returns-then-kind-eq-LEFT_CURLY_BRACE : goal.primary-returns-then-kind-eq-LEFT_CURLY_BRACE
 unfolding run dictionary
 primary-returns-then-kind-eq-LEFT_CURLY_BRACE t c =
     let n = peeked (view c.args.t.now) c.args.p.current _ c.peek-coming.ensures in
     let h = primary_leftcurlybrace (view c.args.t.now) (lower (view c.args.t.now) c.args.levels) c.args.p c.args.errors.now c.args.nodes.now _ _ n c.if-kind-eq-LEFT_CURLY_BRACE.true in
-    rw (h, ← c.at_token-then-kind-eq-LEFT_CURLY_BRACE.ensures, ← c.pairs-g.ensures) (rw (← c.dictionary.ensures (lower (view c.args.t.now) c.args.levels)))
+    rw (h, ← c.at_token-then-kind-eq-LEFT_CURLY_BRACE.ensures, ← c.pairs-g.ensures) (rw (← c.collection-then-kind-eq-LEFT_CURLY_BRACE.ensures (lower (view c.args.t.now) c.args.levels)))
 
 pub primary-returns-then-kind-eq-FN : goal.primary-returns-then-kind-eq-FN
 unfolding run

@@ -1,6 +1,6 @@
 use Rattle.parser.proofs.Exits.{given_up}
 use Rattle.parser.specs.Programs.{run}
-use Rattle.pieces.proofs.list.Goals as goal
+use Rattle.pieces.proofs.collection.Goals as goal
 
 pub returns-in_err-s : goal.returns-in_err-s
 unfolding run
