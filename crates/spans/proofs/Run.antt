@@ -1,6 +1,6 @@
 -- A run of bytes that pass, one byte further. Assumes nothing.
-use mathlib.Core.Path.{◌≡◌}
-use mathlib.Core.Bool.{Bool, true, false}
+use mathlib.Core.Path.{◌≡◌, refl}
+use mathlib.Core.Bool.{Bool, true, false, cond}
 use mathlib.Core.List.{List, [], ◌∷◌}
 use Prim.Native.Nat.{ℕ, suc, ◌+◌, ◌≤◌, ◌<◌}
 use native.Mathlib.Numerals.{add-one}
@@ -8,6 +8,7 @@ use native.Mathlib.Omega.{arith}
 use native.Mathlib.Nat.{le_refl}
 use lib.ListN.{length, get_or, drop, drop_of_length-le, length-drop}
 use lib.Seq.{drop-cons}
+use Rattle.std.specs.List.{prefix_len}
 use Rattle.spans.specs.Span.{run, count}
 
 module _ (p : ℕ → Bool) (s : List ℕ) (j : ℕ) where
@@ -23,6 +24,15 @@ module _ (p : ℕ → Bool) (s : List ℕ) (j : ℕ) where
 
   pub run_end : length s ≤ j → j + run p (drop j s) ≡ j
   run_end h = rw (drop_of_length-le s h) (omega arith)
+
+-- ---- a run is as long as std counts it
+pub run_prefix : (p : ℕ → Bool) (s : List ℕ) → run p s ≡ prefix_len p s
+run_prefix p [] = refl
+run_prefix p (x ∷ s) = go (p x) (run_prefix p s)
+  where
+    go : (b : Bool) → run p s ≡ prefix_len p s → count b (run p s) ≡ cond b (1 + prefix_len p s) 0
+    go true h = omega arith
+    go false h = refl
 
 -- ---- a run stays within the bytes
 pub run_le : (p : ℕ → Bool) (s : List ℕ) → run p s ≤ length s
