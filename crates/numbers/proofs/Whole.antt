@@ -3,12 +3,12 @@ use mathlib.Core.Path.{◌≡◌, refl, sym, ap, ◌∙◌, subst}
 use mathlib.Core.Logic.{◌⊎◌, inl, inr, ⊎_elim}
 use mathlib.Core.Bool.{Bool, true, false, not, cond}
 use mathlib.Core.List.{List, [], ◌∷◌, ◌++◌}
-use Prim.Native.Nat.{ℕ, suc, ◌+◌, ◌*◌, ◌-◌, ◌^◌, ◌≤◌, ◌<◌}
+use Prim.Native.Nat.{ℕ, ◌+◌, ◌*◌, ◌-◌, ◌^◌, ◌≤◌, ◌<◌}
 use native.Mathlib.Numerals.{add-one}
 use native.Mathlib.Omega.{arith}
 use borrow.Author.Tests.{le-leb, lt-leb}
 use lib.Dec.{T, leb, leb→le, nleb→lt}
-use lib.ListN.{length, get_or, drop, drop_of_length-le}
+use lib.ListN.{length, get_or, drop}
 use lib.Seq.{drop-cons}
 use lib.Ieee.Fits.{and_l, and_r}
 use Rattle.spans.specs.Span.{is_digit}
@@ -76,12 +76,3 @@ module _ (s : List ℕ) (j : ℕ) where
       ∙ ap (λ (x : Bool). capped (whole_of (front t) (cond x (10 * n + (b - 48)) n))) e
       ∙ sym (cap_whole (front t) (10 * n + (b - 48)))
       ∙ ap (λ (x : ℕ). capped (whole_of (front t) x)) (sym f)
-
-  pub whole_stop : (n : ℕ) → j < length s → is_digit (get_or s j 0) ≡ false → n ≤ 2 ^ 53 + 1 → capped (whole_of (front (drop j s)) n) ≡ n
-  whole_stop n h e k =
-      ap (λ (l : List ℕ). capped (whole_of (front l) n)) (drop-cons s j 0 h)
-      ∙ ap (λ (l : List ℕ). capped (whole_of l n)) (front_stop (get_or s j 0) (drop (suc j) s) e)
-      ∙ same n k
-
-  pub whole_end : (n : ℕ) → length s ≤ j → n ≤ 2 ^ 53 + 1 → capped (whole_of (front (drop j s)) n) ≡ n
-  whole_end n h k = ap (λ (l : List ℕ). capped (whole_of (front l) n)) (drop_of_length-le s h) ∙ same n k

@@ -15,15 +15,9 @@ module _ (p : ℕ → Bool) (s : List ℕ) (j : ℕ) where
   step : j < length s → run p (drop j s) ≡ count (p (get_or s j 0)) (run p (drop (j + 1) s))
   step h = rw (add-one, drop-cons s j 0)
 
-  -- a byte that passes, one that does not, and the end
+  -- a byte that passes
   pub run_more : j < length s → p (get_or s j 0) ≡ true → j + run p (drop j s) ≡ j + 1 + run p (drop (j + 1) s)
   run_more h e = rw (step h, e) (omega arith)
-
-  pub run_stop : j < length s → p (get_or s j 0) ≡ false → j + run p (drop j s) ≡ j
-  run_stop h e = rw (step h, e) (omega arith)
-
-  pub run_end : length s ≤ j → j + run p (drop j s) ≡ j
-  run_end h = rw (drop_of_length-le s h) (omega arith)
 
 -- ---- a run is as long as std counts it
 pub run_prefix : (p : ℕ → Bool) (s : List ℕ) → run p s ≡ prefix_len p s
