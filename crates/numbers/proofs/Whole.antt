@@ -61,9 +61,6 @@ digit b e =
 front_more : (b : ℕ) (s : List ℕ) → is_digit b ≡ true → front (b ∷ s) ≡ b ∷ front s
 front_more b s e = rw e
 
-front_stop : (b : ℕ) (s : List ℕ) → is_digit b ≡ false → front (b ∷ s) ≡ []
-front_stop b s e = rw e
-
 module _ (s : List ℕ) (j : ℕ) where
   pub whole_more : (n r : ℕ) → j < length s → is_digit (get_or s j 0) ≡ true → r ≡ capped (10 * n + (get_or s j 0 - 48))
       → capped (whole_of (front (drop j s)) n) ≡ capped (whole_of (front (drop (j + 1) s)) r)

@@ -6,7 +6,7 @@ use Prim.Native.Nat.{ℕ, suc, ◌+◌, ◌≤◌, ◌<◌}
 use native.Mathlib.Numerals.{add-one}
 use native.Mathlib.Omega.{arith}
 use native.Mathlib.Nat.{le_refl}
-use lib.ListN.{length, get_or, drop, drop_of_length-le, length-drop}
+use lib.ListN.{length, get_or, drop}
 use lib.Seq.{drop-cons}
 use Rattle.std.specs.List.{prefix_len}
 use Rattle.spans.specs.Span.{run, count}
@@ -36,6 +36,3 @@ run_le p (x ∷ s) = go (p x) (run_le p s)
     go : (b : Bool) → run p s ≤ length s → count b (run p s) ≤ suc (length s)
     go true h = omega arith
     go false h = omega arith
-
-pub end_le : (p : ℕ → Bool) (s : List ℕ) (i : ℕ) → i ≤ length s → i + run p (drop i s) ≤ length s
-end_le p s i h = omega (arith, run_le p (drop i s), length-drop i s)
