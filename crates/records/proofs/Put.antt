@@ -6,8 +6,8 @@ use mathlib.Core.Logic.{⊎_elim}
 use Prim.Native.Nat.{ℕ, ◌+◌, ◌*◌, ◌≤◌, ◌<◌}
 use native.Mathlib.Omega.{arith}
 use borrow.Author.Tests.{lt-ltb, le-ltb}
-use lib.ListN.{length, take, drop, length-append, length-drop}
-use borrow.Rule.Slice.PartMut.{put_mid}
+use lib.ListN.{length, take, drop, length-append, length-take, length-drop}
+use borrow.Rule.Slice.PartMut.{mid_of, put_mid}
 use lib.Seq.{length-take-le, take_at, drop_at, drop-drop}
 use Rattle.records.specs.Table.{room, put, Pushed}
 use Rattle.records.proofs.Rooms.{room_fits, next_start, lt_or_le}
@@ -47,6 +47,12 @@ module _ (w : ℕ) (t : List ℕ) (n : ℕ) (ws : List ℕ) (long : length ws �
 pub put_length : (w : ℕ) (t : List ℕ) (n : ℕ) (ws : List ℕ) → length ws ≡ w → length (put w t n ws) ≡ length t
 put_length w t n ws long =
     ⊎_elim (λ h. kept w t n ws long h) (λ h. ap length (put_none w t n ws h)) (lt_or_le n (room w t))
+
+-- where there is room, as many words stand there as a record has
+pub room_long : (w : ℕ) (t : List ℕ) (n v k : ℕ) → v ≡ w → k ≡ w → n < room w t → length (mid_of (v * n) k t) ≡ w
+room_long w t n v k e f h =
+    let g : w * n + w ≤ length t = room_fits w t n h in
+    rw (e, f) (simp (length-take, length-drop) (omega arith))
 
 -- a push that writes its words over those that stand there, where there is room
 pub pushed : (w : ℕ) (t : List ℕ) (n : ℕ) (ws us : List ℕ) (v k : ℕ) → v ≡ w → k ≡ w → us ≡ ws → n < room w t

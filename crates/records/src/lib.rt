@@ -24,10 +24,10 @@ pub trait Record: Copy {
 
     const WIDTH: usize;
 
-    // Writes the words, in the order in which they stand in a table.
+    // Writes the words, in the order in which they stand in a table, over as many others; nothing where there are more or fewer.
     fn write(self, to: &mut [u32])
-        requires { length to.old ≡ WIDTH }
-        ensures { to.new ≡ words self };
+        ensures written { length to.old ≡ WIDTH → to.new ≡ words self }
+        ensures kept { (length to.old ≡ WIDTH → ⊥) → to.new ≡ to.old };
 
     ghost not_empty: { 0 < WIDTH };
 
@@ -59,14 +59,16 @@ impl Record for TokenData {
     const WIDTH: usize = TOKEN_WIDTH;
 
     fn write(self, to: &mut [u32]) {
-        to[0] = self.kind;
-        to[1] = self.start;
-        to[2] = self.length;
-        to[3] = self.line;
-        to[4] = self.sort;
-        to[5] = self.low;
-        to[6] = self.high;
-        to[7] = self.begins;
+        if to.len() == TOKEN_WIDTH {
+            to[0] = self.kind;
+            to[1] = self.start;
+            to[2] = self.length;
+            to[3] = self.line;
+            to[4] = self.sort;
+            to[5] = self.low;
+            to[6] = self.high;
+            to[7] = self.begins;
+        }
     }
 }
 
@@ -90,9 +92,11 @@ impl Record for InterpreterError {
     const WIDTH: usize = ERROR_WIDTH;
 
     fn write(self, to: &mut [u32]) {
-        to[0] = self.message;
-        to[1] = self.line;
-        to[2] = self.pos;
+        if to.len() == ERROR_WIDTH {
+            to[0] = self.message;
+            to[1] = self.line;
+            to[2] = self.pos;
+        }
     }
 }
 
@@ -122,15 +126,17 @@ impl Record for Node {
     const WIDTH: usize = NODE_WIDTH;
 
     fn write(self, to: &mut [u32]) {
-        to[0] = self.kind;
-        to[1] = self.token1;
-        to[2] = self.token2;
-        to[3] = self.token3;
-        to[4] = self.child1;
-        to[5] = self.child2;
-        to[6] = self.child3;
-        to[7] = self.child4;
-        to[8] = self.next;
+        if to.len() == NODE_WIDTH {
+            to[0] = self.kind;
+            to[1] = self.token1;
+            to[2] = self.token2;
+            to[3] = self.token3;
+            to[4] = self.child1;
+            to[5] = self.child2;
+            to[6] = self.child3;
+            to[7] = self.child4;
+            to[8] = self.next;
+        }
     }
 }
 
