@@ -23,8 +23,17 @@ pub enum Literal {
     Nil,
 }
 
-// The three value words of a token record: the value sort and its two words.
-#[derive(Clone, Copy)]
+// What value a token has, as the first value word says it.
+#[derive(Clone, Copy, PartialEq, Eq, Debug)]
+pub enum Sort {
+    Absent = 0,
+    Text = 1,
+    Number = 2,
+    Long = 3,
+}
+
+// The three value words of a token record: the value sort and its two words. By default those of a token without a value.
+#[derive(Clone, Copy, Default)]
 pub struct Words {
     pub sort: u32,
     pub low: u32,
@@ -36,63 +45,47 @@ impl Literal {
     pub fn number(m: u64, k: usize, span: Span) -> Self
         ensures { result ≡ value_of m k span }
     {
-        if m <= 9007199254740992 {
-            if k <= 22 {
-                return Literal::Number((m as f64) / TENS[k]);
-            }
+        if m <= 9007199254740992 && k <= 22 {
+            return Literal::Number((m as f64) / TENS[k]);
         }
         Literal::Long(span)
     }
+}
 
-    // The literal at the edge: its words in a token record.
-    pub fn pack(self) -> Words
-        ensures { result ≡ words_of self }
-    {
-        match self {
+// The literal at the edge: its words in a token record.
+impl From<Literal> for Words {
+    ghost from_gives = { λ literal words. words ≡ words_of literal };
+
+    fn from(literal: Literal) -> Words {
+        match literal {
             Literal::Text(_, n) => Words {
-                sort: 1,
+                sort: Sort::Text as u32,
                 low: n,
-                high: 0,
+                ..Words::default()
             },
             Literal::Number(x) => float_words(x),
             Literal::Long(_) => Words {
-                sort: 3,
-                low: 0,
-                high: 0,
+                sort: Sort::Long as u32,
+                ..Words::default()
             },
-            Literal::Truth(_) => none(),
-            Literal::Nil => none(),
+            Literal::Truth(_) | Literal::Nil => Words::default(),
         }
     }
 }
 
-// The words of a token without a value.
-pub fn none() -> Words
-    ensures { result ≡ record { sort = 0; low = 0; high = 0 } }
-{
-    Words {
-        sort: 0,
-        low: 0,
-        high: 0,
-    }
-}
-
-// The low and the high half of a float's bits. A float that is no number differs from itself and has one pattern of bits here.
+// The low and the high half of a float's bits. A float that is no number has one pattern of bits here.
 fn float_words(x: f64) -> Words
     ensures { result ≡ words_of (Literal.Number x) }
 {
-    if x != x {
-        return Words {
-            sort: 2,
-            low: 0,
-            high: 0x7ff8_0000,
-        };
-    }
-    let b = f64::to_bits(x);
+    let bits = if x.is_nan() {
+        0x7ff8_0000_0000_0000
+    } else {
+        x.to_bits()
+    };
     Words {
-        sort: 2,
-        low: (b % 4294967296) as u32,
-        high: (b / 4294967296) as u32,
+        sort: Sort::Number as u32,
+        low: (bits % 4294967296) as u32,
+        high: (bits / 4294967296) as u32,
     }
 }
 

@@ -3,12 +3,12 @@ use mathlib.Core.Path.{◌≡◌, refl, sym, ap, ◌∙◌}
 use mathlib.Core.Bool.{Bool, true, false, cond, ◌&&◌}
 use mathlib.Core.List.{List, [], ◌∷◌, ◌++◌}
 use Prim.Native.Nat.{ℕ, suc, ◌+◌, ◌-◌, ◌≤◌, ◌<◌}
-use native.Mathlib.Nat.{add-zero, zero-add, le_refl}
+use native.Mathlib.Nat.{zero-add, le_refl}
 use native.Mathlib.Numerals.{add-one}
 use native.Mathlib.Omega.{arith}
 use borrow.Author.Tests.{eqb-true, eqb-false, eq-eqb, ne_eqb, lt-ltb}
 use lib.Dec.{eqb, ltb}
-use lib.ListN.{length, get_or, take, drop, length-drop, drop_of_length-le}
+use lib.ListN.{length, get_or, take, drop, length-drop}
 use lib.Seq.{drop-cons, drop-drop, take-add}
 use Rattle.spans.specs.Span.{is_digit, run}
 use Rattle.spans.proofs.Run.{run_le}
@@ -29,9 +29,6 @@ shift a b x y f g = go (eqb x y) refl
     go true e = eq-eqb a b (g (eqb-true x y e))
     go false e = ne_eqb a b (λ h. eqb-false x y e (f h))
 
-pub none : (s : List ℕ) (start : ℕ) → length s ≤ start → number_at (drop start s) ≡ record { size = 0; cut = false; whole = 0; places = 0 }
-none s start h = ap number_at (drop_of_length-le s h)
-
 module _ (s : List ℕ) (start p d m : ℕ) (h : start < length s) (so : d ≡ cond (is_digit (get_or s start 0)) (get_or s start 0 - 48) 0)
     (to : p ≡ start + 1 + run is_digit (drop (start + 1) s)) (then : m ≡ capped (whole_of (front (drop (start + 1) s)) d)) where
   abbrev t : List ℕ
@@ -51,14 +48,6 @@ module _ (s : List ℕ) (start p d m : ℕ) (h : start < length s) (so : d ≡ c
   -- the first digit is the number so far
   begun : (w : List ℕ) → whole_of (get_or s start 0 ∷ w) 0 ≡ whole_of w d
   begun w = ap (λ (x : ℕ). whole_of w (cond (is_digit (get_or s start 0)) x 0)) (zero-add (get_or s start 0 - 48)) ∙ ap (whole_of w) (sym so)
-
-  -- no point follows
-  pub plain : point_size (drop p s) ≡ 0 → record { size = p - start; cut = false; whole = m; places = 0 } ≡ number_at (drop start s)
-  plain e =
-      let z : pointed t ≡ 0 = ap point_size past ∙ e in
-      let n : number_size t ≡ a = ap (λ (i : ℕ). a + i) z ∙ add-zero a in
-      let w : whole_of (get_or s start 0 ∷ take (number_size t) t) 0 ≡ whole_of (front t) d = begun (take (number_size t) t) ∙ ap (λ (i : ℕ). whole_of (take i t) d) n in
-      alike (omega arith) (ap (λ (i : ℕ). ltb 0 i && eqb (number_size t) (length t)) (sym z)) (then ∙ ap capped (sym w)) (ap (λ (i : ℕ). i - 1) (sym z)) ∙ sym at
 
   -- a point follows, and q digits after it
   module _ (l : p < length s) (point : get_or s p 0 ≡ 46) (end w : ℕ) (on : end ≡ p + 1 + run is_digit (drop (p + 1) s))
@@ -98,13 +87,6 @@ module _ (s : List ℕ) (start p d m : ℕ) (h : start < length s) (so : d ≡ c
         let n : number_size t ≡ a + suc q = ap (λ (i : ℕ). a + i) size_is in
         let k : pointed t ≡ suc q = size_is in
         alike (omega arith) ends joined (omega arith) ∙ sym at
-
--- what stands there is no point
-pub no_point : (s : List ℕ) (p : ℕ) → p < length s → (get_or s p 0 ≡ 46 → ⊥) → point_size (drop p s) ≡ 0
-no_point s p h e = ap point_size (drop-cons s p 0 h) ∙ ap (λ (b : Bool). cond b (suc (run is_digit (drop (suc p) s))) 0) (ne_eqb _ _ e)
-
-pub no_byte : (s : List ℕ) (p : ℕ) → length s ≤ p → point_size (drop p s) ≡ 0
-no_byte s p h = ap point_size (drop_of_length-le s h)
 
 -- ---- a number lies within the source
 point_le : (s : List ℕ) → point_size s ≤ length s

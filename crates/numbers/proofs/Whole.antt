@@ -3,12 +3,12 @@ use mathlib.Core.Path.{◌≡◌, refl, sym, ap, ◌∙◌, subst}
 use mathlib.Core.Logic.{◌⊎◌, inl, inr, ⊎_elim}
 use mathlib.Core.Bool.{Bool, true, false, not, cond}
 use mathlib.Core.List.{List, [], ◌∷◌, ◌++◌}
-use Prim.Native.Nat.{ℕ, suc, ◌+◌, ◌*◌, ◌-◌, ◌^◌, ◌≤◌, ◌<◌}
+use Prim.Native.Nat.{ℕ, ◌+◌, ◌*◌, ◌-◌, ◌^◌, ◌≤◌, ◌<◌}
 use native.Mathlib.Numerals.{add-one}
 use native.Mathlib.Omega.{arith}
 use borrow.Author.Tests.{le-leb, lt-leb}
 use lib.Dec.{T, leb, leb→le, nleb→lt}
-use lib.ListN.{length, get_or, drop, drop_of_length-le}
+use lib.ListN.{length, get_or, drop}
 use lib.Seq.{drop-cons}
 use lib.Ieee.Fits.{and_l, and_r}
 use Rattle.spans.specs.Span.{is_digit}
@@ -61,9 +61,6 @@ digit b e =
 front_more : (b : ℕ) (s : List ℕ) → is_digit b ≡ true → front (b ∷ s) ≡ b ∷ front s
 front_more b s e = rw e
 
-front_stop : (b : ℕ) (s : List ℕ) → is_digit b ≡ false → front (b ∷ s) ≡ []
-front_stop b s e = rw e
-
 module _ (s : List ℕ) (j : ℕ) where
   pub whole_more : (n r : ℕ) → j < length s → is_digit (get_or s j 0) ≡ true → r ≡ capped (10 * n + (get_or s j 0 - 48))
       → capped (whole_of (front (drop j s)) n) ≡ capped (whole_of (front (drop (j + 1) s)) r)
@@ -76,12 +73,3 @@ module _ (s : List ℕ) (j : ℕ) where
       ∙ ap (λ (x : Bool). capped (whole_of (front t) (cond x (10 * n + (b - 48)) n))) e
       ∙ sym (cap_whole (front t) (10 * n + (b - 48)))
       ∙ ap (λ (x : ℕ). capped (whole_of (front t) x)) (sym f)
-
-  pub whole_stop : (n : ℕ) → j < length s → is_digit (get_or s j 0) ≡ false → n ≤ 2 ^ 53 + 1 → capped (whole_of (front (drop j s)) n) ≡ n
-  whole_stop n h e k =
-      ap (λ (l : List ℕ). capped (whole_of (front l) n)) (drop-cons s j 0 h)
-      ∙ ap (λ (l : List ℕ). capped (whole_of l n)) (front_stop (get_or s j 0) (drop (suc j) s) e)
-      ∙ same n k
-
-  pub whole_end : (n : ℕ) → length s ≤ j → n ≤ 2 ^ 53 + 1 → capped (whole_of (front (drop j s)) n) ≡ n
-  whole_end n h k = ap (λ (l : List ℕ). capped (whole_of (front l) n)) (drop_of_length-le s h) ∙ same n k

@@ -1,11 +1,11 @@
 // Numbers of lexer.rs: where one ends and what its digits are, for `Literal::number` to value.
 #![tactic(auto)]
 
-ghost use Rattle.std.specs.Prelude.{◌≡◌, cond, ◌+◌, ◌-◌, ◌*◌, ◌^◌, ◌≤◌, drop};
+ghost use Rattle.std.specs.Prelude.{◌≡◌, cond, ◌+◌, ◌-◌, ◌*◌, ◌^◌, ◌≤◌, drop, length};
 ghost use Rattle.spans.specs.Span.{is_digit, run};
 ghost use Rattle.numbers.specs.Number.{front, whole_of, capped, number_at};
 
-#[derive(Clone, Copy)]
+#[derive(Clone, Copy, Default)]
 pub struct Numeral {
     // How many bytes it has.
     pub size: usize,
@@ -21,35 +21,24 @@ pub struct Numeral {
 pub fn number(s: &[u8], start: usize) -> Numeral
     ensures { result ≡ number_at (drop start s.now) }
 {
-    if s.len() <= start {
+    let Some(&first) = s.get(start) else {
+        return Numeral::default();
+    };
+    let front = read_digits(s, start + 1, digit(first));
+    if let Some(b'.') = s.get(front.end) {
+        let behind = front.end + 1;
+        let all = read_digits(s, behind, front.whole);
         return Numeral {
-            size: 0,
-            cut: false,
-            whole: 0,
-            places: 0,
+            size: all.end - start,
+            cut: all.end == s.len(),
+            whole: all.whole,
+            places: all.end - behind,
         };
     }
-    let first = read_digits(s, start + 1, digit(s[start]));
-    let p = first.end;
-    let m = first.whole;
-    if p < s.len() {
-        if s[p] == b'.' {
-            let q = p + 1;
-            let rest = read_digits(s, q, m);
-            let end = rest.end;
-            return Numeral {
-                size: end - start,
-                cut: end == s.len(),
-                whole: rest.whole,
-                places: end - q,
-            };
-        }
-    }
     Numeral {
-        size: p - start,
-        cut: false,
-        whole: m,
-        places: 0,
+        size: front.end - start,
+        whole: front.whole,
+        ..Numeral::default()
     }
 }
 
@@ -61,42 +50,42 @@ struct Digits {
 
 // The digits from i on, where those before them read as m.
 fn read_digits(s: &[u8], i: usize, m: u64) -> Digits
-    requires { m ≤ 2 ^ 53 + 1 }
-    ensures { (result.end ≡ i + run is_digit (drop i s.now)) × (result.whole ≡ capped (whole_of (front (drop i s.now)) m)) }
+    requires small { m ≤ 2 ^ 53 + 1 }
+    requires within { i ≤ length s.now }
+    ensures end { result.end ≡ i + run is_digit (drop i s.now) }
+    ensures whole { result.whole ≡ capped (whole_of (front (drop i s.now)) m) }
 {
-    let mut j = i;
     let mut n = m;
-    while j < s.len() {
+    for j in i..s.len() {
         let c = s[j];
-        if spans::is_digit(c) {
-            n = grow(n, c - 48);
-            j += 1;
-        } else {
+        if !spans::is_digit(c) {
             return Digits { end: j, whole: n };
         }
+        n = grow(n, c - b'0');
     }
-    Digits { end: j, whole: n }
+    Digits {
+        end: s.len(),
+        whole: n,
+    }
 }
 
 // One digit more. The cap keeps the sum small, and no digit that follows brings a number back under it.
 fn grow(m: u64, d: u8) -> u64
-    requires { (m ≤ 2 ^ 53 + 1) × (d ≤ 9) }
-    ensures { (result ≡ capped (10 * m + d)) × (result ≤ 2 ^ 53 + 1) }
+    requires small { m ≤ 2 ^ 53 + 1 }
+    requires digit { d ≤ 9 }
+    ensures value { result ≡ capped (10 * m + d) }
+    ensures small { result ≤ 2 ^ 53 + 1 }
 {
-    let n = 10 * m + (d as u64);
-    if n <= 9007199254740992 {
-        n
-    } else {
-        9007199254740993
-    }
+    (10 * m + d as u64).min(9007199254740993)
 }
 
 // A first byte's digit; 0 where it is none.
 fn digit(c: u8) -> u64
-    ensures { (result ≡ cond (is_digit c) (c - 48) 0) × (result ≤ 255) }
+    ensures value { result ≡ cond (is_digit c) (c - 48) 0 }
+    ensures small { result ≤ 255 }
 {
     if spans::is_digit(c) {
-        return (c - 48) as u64;
+        return (c - b'0') as u64;
     }
     0
 }

@@ -8,7 +8,7 @@ use borrow.Author.Tests.{lt-ltb, le-ltb}
 use lib.ListN.{length, get_or, take, drop, get_or-append, length-append}
 use lib.Seq.{length-take-le, get_or-take, get_or-drop, get_or-append-add}
 use Rattle.records.specs.Table.{room, put, field}
-use Rattle.records.proofs.Room.{room_fits, room_length, apart, next_start, lt_or_le}
+use Rattle.records.proofs.Rooms.{room_fits, room_length, apart, next_start, lt_or_le}
 use Rattle.records.proofs.Put.{put_room, put_none, put_drop, put_length}
 
 -- where there is such a record, and where there is none

@@ -1,5 +1,4 @@
-pub mod Stores
-pub mod Room
+pub mod Rooms
 pub mod Put
 pub mod Field
 pub mod Rest

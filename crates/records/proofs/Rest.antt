@@ -1,17 +1,18 @@
 -- A node linked to the next one, and the words past the last record set to 0. Assumes nothing.
 use mathlib.Core.Path.{◌≡◌, refl, sym, ap, ◌∙◌}
 use mathlib.Core.Bool.{Bool, true, false, cond, ◌&&◌}
-use mathlib.Core.List.{List, [], ◌∷◌, ◌++◌, append-nil}
+use mathlib.Core.List.{List, [], ◌++◌, append-nil}
 use mathlib.Core.Logic.{◌⊎◌, ⊎_elim}
-use Prim.Native.Nat.{ℕ, ◌+◌, ◌*◌, ◌-◌, ◌≤◌, ◌<◌}
-use native.Mathlib.Numerals.{add-one}
+use Prim.Native.Nat.{ℕ, ◌+◌, ◌*◌, ◌-◌, ◌≤◌, ◌<◌, min}
 use native.Mathlib.Omega.{arith}
 use borrow.Author.Tests.{le-leb, lt-leb}
 use lib.Dec.{leb}
-use lib.ListN.{length, get_or, take, set, replicate, length-append, length-take, length-set, length-replicate, get_or-replicate}
-use lib.Seq.{length-take-le, take_all, take-suc, take-suc-set, take_at, take-take, get_or-append-add}
+use lib.ListN.{length, get_or, take, drop, set, drop_of_length-le, length-drop, replicate, length-append, length-take, length-set, length-replicate, get_or-replicate}
+use borrow.Rule.Slice.PartMut.{mid_of, put_mid}
+use lib.Seq.{length-take-le, take_at, take-take, get_or-append-add}
+use Rattle.std.proofs.lemmas.List.{take_min}
 use Rattle.records.specs.Table.{node_width, room, linked, zeroed}
-use Rattle.records.proofs.Room.{lt_or_le}
+use Rattle.records.proofs.Rooms.{lt_or_le}
 
 -- where r names a node, and where it names none
 pub linked_room : (t : List ℕ) (r m : ℕ) → 1 ≤ r → r ≤ room node_width t → linked t r m ≡ set t (node_width * (r - 1) + 8) m
@@ -56,18 +57,11 @@ module _ (w : ℕ) (t : List ℕ) (n : ℕ) where
       (λ h. let z : length t - w * n ≡ 0 = omega arith in rw (z, append-nil (take (w * n) t)) (take-take (w * n) (w * n) t (omega arith)))
       (lt_or_le (w * n) (length t))
 
-  -- a turn of the loop that zeroes word by word, where u is right up to word i; and its end
-  pub zero_more : (u : List ℕ) (i : ℕ) → w * n ≤ i → i < length t → length u ≡ length t → take i u ≡ take i (zeroed w t n)
-      → take (i + 1) (set u i 0) ≡ take (i + 1) (zeroed w t n)
-  zero_more u i p h l e =
-      let z : length (zeroed w t n) ≡ length t = zeroed_length in
-      rw add-one
-      (take-suc-set u i 0 (omega arith)
-      ∙ ap (λ (x : List ℕ). x ++ (0 ∷ [])) e
-      ∙ ap (λ (x : ℕ). take i (zeroed w t n) ++ (x ∷ [])) (sym (zeroed_word i p h))
-      ∙ sym (take-suc (zeroed w t n) i 0 (omega arith)))
-
-  pub zero_all : (u : List ℕ) (i : ℕ) → length t ≤ i → length u ≡ length t → take i u ≡ take i (zeroed w t n) → u ≡ zeroed w t n
-  zero_all u i h l e =
-      let z : length (zeroed w t n) ≡ length t = zeroed_length in
-      sym (take_all i u (omega arith)) ∙ e ∙ take_all i (zeroed w t n) (omega arith)
+  -- zeros over the words from record n on, or over none where the table ends before it
+  pub zero_filled : (at : ℕ) (u : List ℕ) → at ≡ min (w * n) (length t) → u ≡ replicate (length (mid_of at (length t - at) t)) 0 → put_mid at (length t - at) t u ≡ zeroed w t n
+  unfolding zeroed
+  zero_filled at u e g =
+      let front : take at t ≡ take (w * n) t = ap (λ (i : ℕ). take i t) e ∙ take_min (w * n) t in
+      let long : length (mid_of at (length t - at) t) ≡ length t - w * n = simp (length-take, length-drop) (omega arith) in
+      let none : drop (length t - at) (drop at t) ≡ [] = drop_of_length-le (drop at t) (omega (arith, length-drop at t)) in
+      rw (none, g, front, long, append-nil) refl

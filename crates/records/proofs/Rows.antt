@@ -8,7 +8,7 @@ use native.Mathlib.Omega.{arith}
 use lib.ListN.{length, get_or, length-append, get_or-append}
 use lib.Seq.{get_or-append-add}
 use Rattle.records.specs.Rows.{Rows, none, more}
-use Rattle.records.proofs.Room.{next_start, apart, lt_or_le}
+use Rattle.records.proofs.Rooms.{next_start, apart, lt_or_le}
 
 module _ {D : Type 0} (words : D → List ℕ) (P : D → Type 0) (w : ℕ) (wide : (d : D) → length (words d) ≡ w) where
   -- n records of w words have w * n words

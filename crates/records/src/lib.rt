@@ -1,7 +1,8 @@
 // Token, error and node records in lent tables of words, and the words of an index.
 #![tactic(auto)]
 
-ghost use Rattle.std.specs.Prelude.{◌≡◌, min, ◌<◌};
+ghost use Rattle.std.proofs.Common.{rules};
+ghost use Rattle.std.specs.Prelude.{◌≡◌, ℕ, List, length, min, ◌<◌, refl};
 ghost use Rattle.records.specs.Table.{token_width, error_width, node_width, index_width, room, field, linked, zeroed, Pushed};
 ghost use Rattle.records.specs.Words.{token_words, error_words, node_words};
 ghost use Rattle.records.specs.Outcomes.{outcome_number};
@@ -14,6 +15,24 @@ pub const ERROR_WIDTH: usize = 3;
 pub const NODE_WIDTH: usize = 9;
 
 pub const INDEX_WIDTH: usize = 1;
+
+// A record of a table: how many words it has, and which they are.
+pub trait Record: Copy {
+    ghost WIDTH: { ℕ };
+
+    ghost words: { Self → List ℕ };
+
+    const WIDTH: usize;
+
+    // Writes the words, in the order in which they stand in a table, over as many others; nothing where there are more or fewer.
+    fn write(self, to: &mut [u32])
+        ensures written { length to.old ≡ WIDTH → to.new ≡ words self }
+        ensures kept { (length to.old ≡ WIDTH → ⊥) → to.new ≡ to.old };
+
+    ghost not_empty: { 0 < WIDTH };
+
+    ghost has_width: { (r : Self) → length (words r) ≡ WIDTH };
+}
 
 // The words of a token: sort says what value it has, low and high hold it; begins is the line counter when its first byte was met, line the counter after its last.
 #[derive(Clone, Copy)]
@@ -28,12 +47,57 @@ pub struct TokenData {
     pub begins: u32,
 }
 
+impl Record for TokenData {
+    ghost WIDTH = { token_width };
+
+    ghost words = { token_words };
+
+    ghost not_empty = { Prim.search rules };
+
+    ghost has_width = { λ _. refl };
+
+    const WIDTH: usize = TOKEN_WIDTH;
+
+    fn write(self, to: &mut [u32]) {
+        if to.len() == TOKEN_WIDTH {
+            to[0] = self.kind;
+            to[1] = self.start;
+            to[2] = self.length;
+            to[3] = self.line;
+            to[4] = self.sort;
+            to[5] = self.low;
+            to[6] = self.high;
+            to[7] = self.begins;
+        }
+    }
+}
+
 // The three words of an error.
 #[derive(Clone, Copy)]
 pub struct InterpreterError {
     pub message: u32,
     pub line: u32,
     pub pos: u32,
+}
+
+impl Record for InterpreterError {
+    ghost WIDTH = { error_width };
+
+    ghost words = { error_words };
+
+    ghost not_empty = { Prim.search rules };
+
+    ghost has_width = { λ _. refl };
+
+    const WIDTH: usize = ERROR_WIDTH;
+
+    fn write(self, to: &mut [u32]) {
+        if to.len() == ERROR_WIDTH {
+            to[0] = self.message;
+            to[1] = self.line;
+            to[2] = self.pos;
+        }
+    }
 }
 
 // The nine words of a node: tokens, children and next are references, index + 1, and 0 is nothing.
@@ -48,6 +112,32 @@ pub struct Node {
     pub child3: u32,
     pub child4: u32,
     pub next: u32,
+}
+
+impl Record for Node {
+    ghost WIDTH = { node_width };
+
+    ghost words = { node_words };
+
+    ghost not_empty = { Prim.search rules };
+
+    ghost has_width = { λ _. refl };
+
+    const WIDTH: usize = NODE_WIDTH;
+
+    fn write(self, to: &mut [u32]) {
+        if to.len() == NODE_WIDTH {
+            to[0] = self.kind;
+            to[1] = self.token1;
+            to[2] = self.token2;
+            to[3] = self.token3;
+            to[4] = self.child1;
+            to[5] = self.child2;
+            to[6] = self.child3;
+            to[7] = self.child4;
+            to[8] = self.next;
+        }
+    }
 }
 
 // A node's kind: the `Expr` enum in its order, 1 to 17, the `Stmt` enum in its order, 18 to 30, an elif branch, a parameter or loop name. `Kinds` of specs/ has the same for definitions.
@@ -254,32 +344,14 @@ impl Message {
 fn cap(records: usize) -> u32
     ensures { result ≡ min records 4294967295 }
 {
-    if records < 4294967295 {
-        records as u32
-    } else {
-        4294967295
-    }
+    records.min(4294967295) as u32
 }
 
-// How many tokens the table has room for.
-pub fn token_room(tokens: &[u32]) -> u32
-    ensures { result ≡ room token_width tokens.now }
+// How many records of the type R the table has room for.
+pub fn room<R: Record>(table: &[u32]) -> u32
+    ensures { result ≡ room R.WIDTH table.now }
 {
-    cap(tokens.len() / TOKEN_WIDTH)
-}
-
-// How many errors the table has room for.
-pub fn error_room(errors: &[u32]) -> u32
-    ensures { result ≡ room error_width errors.now }
-{
-    cap(errors.len() / ERROR_WIDTH)
-}
-
-// How many nodes the table has room for.
-pub fn node_room(nodes: &[u32]) -> u32
-    ensures { result ≡ room node_width nodes.now }
-{
-    cap(nodes.len() / NODE_WIDTH)
+    cap(table.len() / R::WIDTH)
 }
 
 // How many tokens the index has room for.
@@ -299,54 +371,13 @@ pub fn index_word(index: &[u32], i: u32) -> u32
     0
 }
 
-// Writes t as token n, where there is room for it.
-pub fn push_token(tokens: &mut [u32], n: u32, t: TokenData) -> bool
-    ensures { Pushed token_width tokens.old n (token_words t) result tokens.new }
+// Writes r as record n, where there is room for it.
+pub fn push<R: Record>(table: &mut [u32], n: u32, r: R) -> bool
+    ensures { Pushed R.WIDTH table.old n (R.words r) result table.new }
 {
-    if n < token_room(tokens) {
-        let at = TOKEN_WIDTH * (n as usize);
-        tokens[at] = t.kind;
-        tokens[at + 1] = t.start;
-        tokens[at + 2] = t.length;
-        tokens[at + 3] = t.line;
-        tokens[at + 4] = t.sort;
-        tokens[at + 5] = t.low;
-        tokens[at + 6] = t.high;
-        tokens[at + 7] = t.begins;
-        return true;
-    }
-    false
-}
-
-// Writes e as error n, where there is room for it.
-pub fn push_error(errors: &mut [u32], n: u32, e: InterpreterError) -> bool
-    ensures { Pushed error_width errors.old n (error_words e) result errors.new }
-{
-    if n < error_room(errors) {
-        let at = ERROR_WIDTH * (n as usize);
-        errors[at] = e.message;
-        errors[at + 1] = e.line;
-        errors[at + 2] = e.pos;
-        return true;
-    }
-    false
-}
-
-// Writes d as node n, where there is room for it.
-pub fn push_node(nodes: &mut [u32], n: u32, d: Node) -> bool
-    ensures { Pushed node_width nodes.old n (node_words d) result nodes.new }
-{
-    if n < node_room(nodes) {
-        let at = NODE_WIDTH * (n as usize);
-        nodes[at] = d.kind;
-        nodes[at + 1] = d.token1;
-        nodes[at + 2] = d.token2;
-        nodes[at + 3] = d.token3;
-        nodes[at + 4] = d.child1;
-        nodes[at + 5] = d.child2;
-        nodes[at + 6] = d.child3;
-        nodes[at + 7] = d.child4;
-        nodes[at + 8] = d.next;
+    if n < room::<R>(table) {
+        let at = R::WIDTH * (n as usize);
+        r.write(&mut table[at..at + R::WIDTH]);
         return true;
     }
     false
@@ -357,7 +388,7 @@ fn token_word(tokens: &[u32], i: u32, k: usize) -> u32
     requires { k < token_width }
     ensures { result ≡ field token_width k tokens.now i }
 {
-    if i < token_room(tokens) {
+    if i < room::<TokenData>(tokens) {
         let at = TOKEN_WIDTH * (i as usize) + k;
         return tokens[at];
     }
@@ -399,7 +430,7 @@ pub fn link(nodes: &mut [u32], r: u32, next: u32)
     if r == 0 {
         return;
     }
-    if r <= node_room(nodes) {
+    if r <= room::<Node>(nodes) {
         let at = NODE_WIDTH * ((r - 1) as usize) + 8;
         nodes[at] = next;
     }
@@ -409,9 +440,7 @@ pub fn link(nodes: &mut [u32], r: u32, next: u32)
 pub fn zero_rest(nodes: &mut [u32], n: u32)
     ensures { nodes.new ≡ zeroed node_width nodes.old n }
 {
-    let mut i = NODE_WIDTH * (n as usize);
-    while i < nodes.len() {
-        nodes[i] = 0;
-        i += 1;
-    }
+    let at = NODE_WIDTH * (n as usize);
+    let kept = at.min(nodes.len());
+    nodes[kept..].fill(0);
 }

@@ -25,7 +25,7 @@ impl Rule {
 pub fn is_known(rule: u32) -> bool
     ensures { result ≡ known rule }
 {
-    (rule == Rule::ONE) | (rule == Rule::TWO)
+    matches!(rule, Rule::ONE | Rule::TWO)
 }
 
 // Where a name ends whose bytes after the first start at i; i itself past the end of s.

@@ -1,7 +1,8 @@
 // Byte classes and spans of lexer.rs: names, digits, comments.
 #![tactic(auto)]
 
-ghost use Rattle.std.specs.Prelude.{◌≡◌, ◌+◌, drop};
+ghost use Rattle.std.specs.Prelude.{◌≡◌, ◌+◌, ◌≤◌, drop, length};
+ghost use Rattle.std.specs.List.{prefix_len};
 ghost use Rattle.spans.specs.Span.{is_alpha, is_digit, is_inner, in_class, run};
 
 // What a span is made of.
@@ -18,13 +19,13 @@ pub enum Class {
 pub fn is_alpha(c: u8) -> bool
     ensures { result ≡ is_alpha c }
 {
-    ((c >= b'a') & (c <= b'z')) | (((c >= b'A') & (c <= b'Z')) | (c == b'_'))
+    c.is_ascii_alphabetic() | (c == b'_')
 }
 
 pub fn is_digit(c: u8) -> bool
     ensures { result ≡ is_digit c }
 {
-    (c >= b'0') & (c <= b'9')
+    c.is_ascii_digit()
 }
 
 // Whether c belongs to a span of class k.
@@ -43,15 +44,18 @@ pub fn in_class(k: Class, c: u8) -> bool
 pub fn span_end(s: &[u8], i: usize, k: Class) -> usize
     ensures { result ≡ i + run (in_class k) (drop i s.now) }
 {
-    let mut j = i;
-    while j < s.len() {
-        if in_class(k, s[j]) {
-            j += 1;
-        } else {
-            return j;
-        }
+    match s.get(i..) {
+        Some(rest) => i + span_length(rest, k),
+        None => i,
     }
-    j
+}
+
+// How many bytes at the front of s belong to a span of class k.
+fn span_length(s: &[u8], k: Class) -> usize
+    ensures size { result ≡ prefix_len (in_class k) s.now }
+    ensures within { result ≤ length s.now }
+{
+    s.iter().take_while(|&&c| in_class(k, c)).count()
 }
 
 pub fn digits_end(s: &[u8], i: usize) -> usize

@@ -1,47 +1,25 @@
 // The text test: bytes pass if they are well-formed by the Unicode Standard's table, which is what Rust accepts as a String.
 #![tactic(auto)]
 
-ghost use Rattle.std.specs.Prelude.{◌≡◌, true, [], ◌≤◌};
+ghost use Rattle.std.specs.Prelude.{◌≡◌, []};
 ghost use Rattle.text.specs.Text.{table, begins, behind, fits, after, is_text};
 ghost use Rattle.text.specs.Due.{columns_of};
 
-// Whether s passes the text test. Most scripts are plain ASCII, which one pass without a branch shows.
+// Whether s passes the text test. Most scripts are plain ASCII, which a look at many bytes at a time shows.
 pub fn is_text(s: &[u8]) -> bool
     ensures { result ≡ is_text s.now }
 {
-    if is_ascii(s) {
+    if s.is_ascii() {
         return true;
     }
     let mut due = Due::none();
-    let mut i = 0;
-    while i < s.len() {
-        let b = s[i];
+    for &b in s {
         if !due.fits(b) {
             return false;
         }
         due = due.after(b);
-        i += 1;
     }
     due.left == 0
-}
-
-// Whether no byte is over 7F, and then s is text. The largest byte decides: the compiler takes many bytes at a time.
-fn is_ascii(s: &[u8]) -> bool
-    ensures { result ≡ true → is_text s.now ≡ true }
-{
-    let mut top = 0;
-    let mut i = 0;
-    while i < s.len() {
-        top = larger(top, s[i]);
-        i += 1;
-    }
-    top < 0x80
-}
-
-fn larger(a: u8, b: u8) -> u8
-    ensures { (a ≤ result) × (b ≤ result) }
-{
-    if a < b { b } else { a }
 }
 
 // What is due within a letter: how many bytes, and from what to what the next of them may be. Those after it are 80..BF.
@@ -74,7 +52,7 @@ impl Due {
         if self.left == 0 {
             is_first(b)
         } else {
-            (self.low <= b) & (b <= self.high)
+            (self.low..=self.high).contains(&b)
         }
     }
 
@@ -114,5 +92,5 @@ impl Due {
 fn is_first(b: u8) -> bool
     ensures { result ≡ begins table b }
 {
-    (b <= 0x7f) | ((0xc2 <= b) & (b <= 0xf4))
+    matches!(b, 0x00..=0x7f | 0xc2..=0xf4)
 }

@@ -3,12 +3,12 @@ use mathlib.Core.Path.{◌≡◌, refl, sym, ap, ◌∙◌}
 use mathlib.Core.Bool.{Bool, true, false, cond}
 use mathlib.Core.List.{List, [], ◌∷◌}
 use Prim.Native.Nat.{ℕ, ◌≤◌, ◌-◌, min}
-use native.Mathlib.Nat.{sub-eq-zero_of_le, min-eq_left, min-eq_right}
+use native.Mathlib.Nat.{sub-eq-zero_of_le}
 use native.Mathlib.Omega.{arith}
-use borrow.Author.Tests.{eqb-false, ne_eqb, leb-true, leb-false}
-use lib.Dec.{eqb, leb}
-use lib.ListN.{length, drop, length-drop}
-use lib.Seq.{take_all}
+use borrow.Author.Tests.{eqb-false, ne_eqb}
+use lib.Dec.{eqb}
+use lib.ListN.{length, take, drop, length-drop}
+use Rattle.std.proofs.lemmas.List.{take_min}
 use Rattle.token.specs.Keyword.{same, Entry, lookup, table, keyword_of, part}
 use Rattle.token.specs.Page.{keep, sized}
 use Rattle.token.proofs.Same.{same_length}
@@ -41,12 +41,7 @@ part_none a e s h = rw (sub-eq-zero_of_le h)
 
 -- what lies past the source is no part of it
 pub part_min : (a e : ℕ) (s : List ℕ) → part a (min e (length s)) s ≡ part a e s
-part_min a e s = go (leb e (length s)) refl
-  where
-    go : (t : Bool) → leb e (length s) ≡ t → part a (min e (length s)) s ≡ part a e s
-    go true h = rw (min-eq_left (leb-true _ _ h))
-    go false h =
-        let l = length-drop a s in
-        let k = leb-false e (length s) h in
-        let m : length s ≤ e = omega arith in
-        rw (min-eq_right m) (take_all (length s - a) (drop a s) (omega arith) ∙ sym (take_all (e - a) (drop a s) (omega arith)))
+part_min a e s =
+    let l = length-drop a s in
+    let m : min e (length s) - a ≡ min (e - a) (length (drop a s)) = omega arith in
+    ap (λ (n : ℕ). take n (drop a s)) m ∙ take_min (e - a) (drop a s)

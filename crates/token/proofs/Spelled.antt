@@ -2,36 +2,19 @@
 use mathlib.Core.Path.{◌≡◌, refl, sym, ap, ◌∙◌}
 use mathlib.Core.Bool.{Bool, true, false, cond}
 use mathlib.Core.List.{List, [], ◌∷◌}
-use Prim.Native.Nat.{ℕ, suc, ◌+◌, ◌*◌, ◌^◌, ◌≤◌, ◌<◌}
+use Prim.Native.Nat.{ℕ, suc, ◌+◌, ◌*◌}
 use Prim.Native.String.{String}
-use native.Mathlib.Nat.{pow-le-pow_right, pow-succ'}
-use native.Mathlib.Numerals.{add-one}
 use native.Mathlib.Omega.{arith}
 use mir.Syntax.{w8}
 use mir.Val.{Fits}
-use lib.Dec.{T, ltb, ltb→lt, lit<}
+use lib.Dec.{T, ltb, ltb→lt}
 use lib.Ieee.Fits.{and_l, and_r}
-use lib.ListN.{length, get_or, drop, drop_of_length-le}
+use lib.ListN.{length, get_or}
 use lib.Pow.{are_bytes}
-use lib.Seq.{drop-cons}
 use Rattle.token.specs.Keyword.{same, Entry, lookup, table, keyword_of}
 use Rattle.token.specs.Page.{spelt, sized, letters_from}
 use Rattle.token.proofs.Same.{same_true}
 use Rattle.token.proofs.Sized.{of_length}
-
--- ---- the loop of `letters`
--- after seven letters there is room for one more
-pub fits : (n i : ℕ) → n < 256 ^ i → i ≤ 7 → n < 2 ^ 56
-fits n i h k = let p : 256 ^ i ≤ 256 ^ 7 = pow-le-pow_right (lit< tt) k in omega arith
-
-pub grows : (n b i : ℕ) → n < 256 ^ i → b < 256 → n * 256 + b < 256 ^ (i + 1)
-grows n b i h k = let p : 256 ^ (i + 1) ≡ 256 * 256 ^ i = rw add-one (pow-succ' 256 i) in omega arith
-
-pub letters_more : (x : List ℕ) (i n : ℕ) → i < length x → letters_from n (drop i x) ≡ letters_from (n * 256 + get_or x i 0) (drop (i + 1) x)
-letters_more x i n h = rw (add-one, drop-cons x i 0)
-
-pub letters_end : (x : List ℕ) (i n : ℕ) → length x ≤ i → letters_from n (drop i x) ≡ n
-letters_end x i n h = rw (drop_of_length-le x h)
 
 -- ---- of one length no two words have the same number
 one_word : (p q : ℕ) (x w : List ℕ) → ((i : ℕ) → Fits w8 (get_or x i 0)) → T (are_bytes w) → length x ≡ length w → letters_from p x ≡ letters_from q w → (p ≡ q) × (x ≡ w)

@@ -116,15 +116,11 @@ impl Token {
     pub fn keyword(s: &[u8], a: usize, e: usize) -> Self
         ensures { result.kind ≡ keyword_of (part a e s.now) }
     {
-        let e = smaller(e, s.len());
-        if a <= e {
-            return Token {
-                kind: keywords(&s[a..e]),
-            };
-        }
-        Token {
-            kind: Token::IDENTIFIER,
-        }
+        let kind = match s.get(a..e.min(s.len())) {
+            Some(name) => keywords(name),
+            None => Token::IDENTIFIER,
+        };
+        Token { kind }
     }
 }
 
@@ -185,17 +181,8 @@ fn letters(x: &[u8]) -> u64
     ensures { result ≡ letters_from 0 x.now }
 {
     let mut n: u64 = 0;
-    let mut i = 0;
-    while i < x.len() {
-        n = n * 256 + x[i] as u64;
-        i += 1;
+    for &b in x {
+        n = n * 256 + b as u64;
     }
     n
-}
-
-// The smaller of two numbers.
-fn smaller(a: usize, b: usize) -> usize
-    ensures { result ≡ min a b }
-{
-    if a <= b { a } else { b }
 }

@@ -1,4 +1,4 @@
-use Rattle.std.proofs.Common.{◌≡◌, ◌+◌, ◌-◌, ◌^◌, ◌≤◌, length, drop}
+use Rattle.std.proofs.Common.{◌≡◌, ◌+◌, ◌^◌, ◌≤◌, drop}
 use Rattle.spans.specs.Span.{is_digit, run}
 use Rattle.numbers.specs.Number.{front, whole_of, capped}
 use Rattle.numbers.proofs.read_digits.Given as goal
@@ -9,6 +9,3 @@ invariant-loop-j l = record {
   same_end : l.i + run is_digit (drop l.i l.s) ≡ l.j + run is_digit (drop l.j l.s);
   same_whole : capped (whole_of (front (drop l.i l.s)) l.m) ≡ capped (whole_of (front (drop l.j l.s)) l.n);
 }
-
-abbrev pub decreases-loop-j : goal.decreases-loop-j
-decreases-loop-j l = length l.s - l.j

@@ -6,8 +6,8 @@ use Rattle.records.proofs.link.Goals as goal
 pub returns-then-r-eq0 : goal.returns-then-r-eq0
 returns-then-r-eq0 c = let a = c.args in sym (linked_none a.nodes.now a.r a.next (inl (omega arith)))
 
-pub returns-then-r-node_room : goal.returns-then-r-node_room
-returns-then-r-node_room c = let a = c.args in sym (linked_room a.nodes.now a.r a.next (omega arith) (omega arith))
+pub returns-then-r-room : goal.returns-then-r-room
+returns-then-r-room c = let a = c.args in sym (linked_room a.nodes.now a.r a.next (omega arith) (omega arith))
 
-pub returns-else-r-node_room : goal.returns-else-r-node_room
-returns-else-r-node_room c = let a = c.args in sym (linked_none a.nodes.now a.r a.next (inr (omega arith)))
+pub returns-else-r-room : goal.returns-else-r-room
+returns-else-r-room c = let a = c.args in sym (linked_none a.nodes.now a.r a.next (inr (omega arith)))
