@@ -6,7 +6,7 @@ use Prim.Native.Nat.{ℕ, ◌+◌, ◌*◌, ◌≤◌}
 use native.Mathlib.Omega.{arith}
 use lib.ListN.{length, drop}
 use Rattle.records.specs.Table.{room, token_width, error_width, node_width, index_width}
-use Rattle.records.proofs.Room.{room_length}
+use Rattle.records.proofs.Rooms.{room_length}
 use Rattle.lexer.specs.Lex.{Result, lexed, lexed_of}
 use Rattle.lexing.specs.Kept.{Ending, whole, short}
 use Rattle.lexing.proofs.Kept.{lexed_keeps}

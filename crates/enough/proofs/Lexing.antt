@@ -18,7 +18,7 @@ use Rattle.literal.specs.declared.Words.{Words}
 use Rattle.records.specs.declared.TokenData.{TokenData}
 use Rattle.records.specs.Table.{room, token_width}
 use Rattle.records.specs.Words.{token_words}
-use Rattle.records.proofs.Room.{lt_or_le}
+use Rattle.records.proofs.Rooms.{lt_or_le}
 use Rattle.records.proofs.Field.{field_room, field_none}
 use Rattle.strings.specs.declared.Ended.{Ended}
 use Rattle.strings.specs.declared.Ended.TheVariants.{Closed, Broken}

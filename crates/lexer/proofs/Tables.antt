@@ -14,7 +14,7 @@ use Rattle.literal.specs.declared.Words.{Words}
 use Rattle.records.specs.Table.{room, put, token_width, error_width}
 use Rattle.records.specs.Words.{token_words, error_words}
 use Rattle.records.specs.Outcomes as outcomes
-use Rattle.records.proofs.Room.{room_fits, room_length, next_start}
+use Rattle.records.proofs.Rooms.{room_fits, room_length, next_start}
 use Rattle.records.proofs.Put.{put_none, put_take, put_drop, put_length}
 use Rattle.text.specs.Text.{is_text}
 use Rattle.rules.specs.Rules.{known}

@@ -13,7 +13,7 @@ use Rattle.text.specs.Text.{is_text}
 use Rattle.rules.specs.Rules.{known}
 use Rattle.records.specs.Table.{room, token_width, error_width}
 use Rattle.records.specs.Words.{token_words, error_words}
-use Rattle.records.proofs.Room.{room_fits, room_length}
+use Rattle.records.proofs.Rooms.{room_fits, room_length}
 use Rattle.records.proofs.Rows.{rows_length}
 use Rattle.lexer.specs.Lex.{Result, refusal, pick_result, lexed, lexed_of}
 use Rattle.lexing.specs.Kept.{Good, Placed, Ending, whole, short}

@@ -10,7 +10,7 @@ use Rattle.records.specs.declared.TokenData.{TokenData}
 use Rattle.records.specs.Table.{token_width}
 use Rattle.records.specs.Words.{token_words}
 use Rattle.records.specs.Rows.{none}
-use Rattle.records.proofs.Room.{lt_or_le}
+use Rattle.records.proofs.Rooms.{lt_or_le}
 use Rattle.lexer.specs.Lex.{lexed, lexed_of}
 use Rattle.lexing.specs.Kept.{InOrder, first, behind}
 use Rattle.lexing.specs.Begins.{begins_at, Begun}

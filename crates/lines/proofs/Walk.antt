@@ -8,7 +8,7 @@ use native.Mathlib.Omega.{arith}
 use borrow.Author.Tests.{eq-eqb, ne_eqb, eqb-true, eqb-false}
 use lib.Dec.{eqb}
 use Rattle.token.specs.Kind.{newline_kind}
-use Rattle.records.proofs.Room.{lt_or_le}
+use Rattle.records.proofs.Rooms.{lt_or_le}
 use Rattle.parser.specs.Tokens.{kind_at, lines_from}
 
 -- a Newline leads to the next token, any other token nowhere

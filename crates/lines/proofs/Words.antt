@@ -11,7 +11,7 @@ use lib.ListN.{length, get_or, take, drop, set, get_or-append, length-append, le
 use lib.Seq.{length-take-le, append_snoc, set-append_left, take-set-lt, take-suc-set}
 use Rattle.token.specs.Kind.{newline_kind}
 use Rattle.records.specs.Table.{room, field, index_width}
-use Rattle.records.proofs.Room.{room_length}
+use Rattle.records.proofs.Rooms.{room_length}
 use Rattle.records.proofs.Field.{field_room}
 use Rattle.parser.specs.Tokens.{kind_at, lines_from}
 use Rattle.lines.specs.Lines.{line_word, line_words, line_index, Indexed}

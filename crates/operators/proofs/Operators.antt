@@ -27,7 +27,7 @@ use Rattle.parser.proofs.Write.{looked_more, looked_none}
 use Rattle.progress.proofs.Moves.{never}
 use Rattle.pieces.proofs.Then.{then_then, then_give, then_same}
 use Rattle.pieces.proofs.NextKind.{Next, peeked, look_here, look_past, Each, of_each}
-use Rattle.records.proofs.Room.{lt_or_le}
+use Rattle.records.proofs.Rooms.{lt_or_le}
 use Rattle.pieces.proofs.Turns.{next_past}
 
 -- ---- the level of an operator

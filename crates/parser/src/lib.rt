@@ -197,7 +197,7 @@ impl<'a> Tokens<'a> {
     {
         let n = p.errors;
         let e = self.error_at(message, token);
-        if records::push_error(errors, n, e) {
+        if records::push(errors, n, e) {
             return gives(p.with_errors(n + 1), 0);
         }
         stops(p, Outcome::NoErrorRoom)
@@ -401,7 +401,7 @@ pub fn make(nodes: &mut [u32], p: State, d: Node) -> Out
     ensures { (E : List ℕ) → answered result E nodes.new ≡ push_node d p E nodes.old }
 {
     let n = p.nodes;
-    if records::push_node(nodes, n, d) {
+    if records::push(nodes, n, d) {
         let m = n + 1;
         return gives(p.with_nodes(m), m);
     }

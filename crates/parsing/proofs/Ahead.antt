@@ -11,7 +11,7 @@ use borrow.Author.Tests.{eqb-true, eqb-false}
 use Rattle.token.specs.Kind.{newline_kind, right_paren_kind, right_brace_kind}
 use Rattle.records.specs.Table.{room, linked, token_width, index_width}
 use Rattle.records.specs.declared.Node as rows
-use Rattle.records.proofs.Room.{lt_or_le}
+use Rattle.records.proofs.Rooms.{lt_or_le}
 use Rattle.records.proofs.Field.{field_none}
 use Rattle.parser.specs.declared.State.{State}
 use Rattle.parser.specs.declared.Form.{Form}

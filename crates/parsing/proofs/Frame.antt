@@ -12,7 +12,7 @@ use Rattle.token.specs.Kind.{newline_kind}
 use Rattle.records.specs.Table.{room, put, field, linked, zeroed, error_width, node_width}
 use Rattle.records.specs.Words.{error_words, node_words}
 use Rattle.records.specs.declared.Node as rows
-use Rattle.records.proofs.Room.{room_fits, room_length, lt_or_le}
+use Rattle.records.proofs.Rooms.{room_fits, room_length, lt_or_le}
 use Rattle.records.proofs.Put.{put_take, put_drop, put_length}
 use Rattle.records.proofs.Field.{field_same, field_other}
 use Rattle.records.proofs.Rest.{linked_length, zeroed_length, zeroed_word, zeroed_take}

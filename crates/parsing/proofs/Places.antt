@@ -12,7 +12,7 @@ use Rattle.token.specs.Kind.{eof_kind, newline_kind}
 use Rattle.records.specs.Table.{room, put, field, linked, error_width}
 use Rattle.records.specs.Words.{error_words}
 use Rattle.records.specs.declared.Node as rows
-use Rattle.records.proofs.Room.{lt_or_le}
+use Rattle.records.proofs.Rooms.{lt_or_le}
 use Rattle.records.proofs.Field.{field_put, field_other}
 use Rattle.parser.specs.declared.State.{State}
 use Rattle.parser.specs.declared.Found.{Found}

@@ -12,7 +12,7 @@ use Rattle.token.specs.Kind.{newline_kind}
 use Rattle.records.specs.Table.{room, put, linked, zeroed, error_width, node_width}
 use Rattle.records.specs.Words.{error_words, node_words}
 use Rattle.records.specs.declared.Node as rows
-use Rattle.records.proofs.Room.{room_length, lt_or_le}
+use Rattle.records.proofs.Rooms.{room_length, lt_or_le}
 use Rattle.records.proofs.Put.{put_take, put_length}
 use Rattle.parser.specs.declared.State.{State}
 use Rattle.parser.specs.declared.Found.{Found}

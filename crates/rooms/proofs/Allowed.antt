@@ -8,7 +8,7 @@ use native.Mathlib.Numerals.{add-one}
 use native.Mathlib.Omega.{arith}
 use lib.Dec.{eqb}
 use Rattle.token.specs.Kind.{class_kind}
-use Rattle.records.proofs.Room.{lt_or_le}
+use Rattle.records.proofs.Rooms.{lt_or_le}
 use Rattle.std.specs.Prelude.{Option}
 use Rattle.std.specs.Prelude.{Some, None}
 use Rattle.parser.specs.Tokens.{View, kind_at, after, check_at, matches_at}

@@ -11,7 +11,7 @@ use Rattle.records.specs.Outcomes.{no_error_room, no_node_room}
 use Rattle.records.specs.Table.{room, put, linked, error_width, node_width}
 use Rattle.records.specs.Words.{error_words, node_words}
 use Rattle.records.specs.declared.Node as rows
-use Rattle.records.proofs.Room.{room_length}
+use Rattle.records.proofs.Rooms.{room_length}
 use Rattle.records.proofs.Put.{put_length}
 use Rattle.records.proofs.Rest.{linked_length}
 use Rattle.parser.specs.declared.State.{State}

@@ -10,7 +10,7 @@ use lib.ListN.{length, take}
 use lib.Seq.{get_or-take, length-take-le}
 use Rattle.token.specs.Kind.{eof_kind}
 use Rattle.records.specs.Table.{room, field, token_width, error_width, node_width}
-use Rattle.records.proofs.Room.{room_fits, fits_room, room_length, lt_or_le}
+use Rattle.records.proofs.Rooms.{room_fits, fits_room, room_length, lt_or_le}
 use Rattle.records.proofs.Field.{field_room}
 use Rattle.lexer.specs.Lex.{Result, lexed_of}
 use Rattle.lexing.proofs.Answer.{tokens_within}

@@ -12,7 +12,7 @@ use lib.Seq.{get_or-set_same, get_or-set_other}
 use Rattle.records.specs.Table.{room, put, field, linked, node_width}
 use Rattle.records.specs.Words.{node_words}
 use Rattle.records.specs.declared.Node as rows
-use Rattle.records.proofs.Room.{lt_or_le, room_fits, room_length}
+use Rattle.records.proofs.Rooms.{lt_or_le, room_fits, room_length}
 use Rattle.records.proofs.Put.{put_length}
 use Rattle.records.proofs.Field.{field_put, field_other, field_room, field_same}
 use Rattle.records.proofs.Rest.{linked_room, linked_none, linked_length}

@@ -14,7 +14,7 @@ use Rattle.records.specs.Table.{room, token_width, error_width, index_width}
 use Rattle.records.specs.Words.{token_words}
 use Rattle.records.specs.Rows.{Rows}
 use Rattle.records.specs.declared.TokenData.{TokenData}
-use Rattle.records.proofs.Room.{room_length}
+use Rattle.records.proofs.Rooms.{room_length}
 use Rattle.records.proofs.Field.{field_room}
 use Rattle.records.proofs.Rows.{rows_length, row_at}
 use Rattle.lexer.specs.Lex.{Result, lexed_of}

@@ -11,7 +11,7 @@ use borrow.Author.Tests.{eqb-true, lt-ltb, le-leb}
 use Rattle.token.specs.Kind.{newline_kind}
 use Rattle.rules.specs.Rules.{known}
 use Rattle.records.specs.Table.{room, linked, token_width, error_width, node_width, index_width}
-use Rattle.records.proofs.Room.{room_length}
+use Rattle.records.proofs.Rooms.{room_length}
 use Rattle.records.proofs.Rest.{linked_length}
 use Rattle.parser.specs.declared.State as state
 use Rattle.parser.specs.declared.Found.{Found}

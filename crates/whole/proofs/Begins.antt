@@ -8,7 +8,7 @@ use lib.Dec.{eqb}
 use lib.ListN.{length, get_or}
 use Rattle.records.specs.Table.{room, field, token_width, error_width, index_width}
 use Rattle.records.specs.Words.{token_words}
-use Rattle.records.proofs.Room.{room_length}
+use Rattle.records.proofs.Rooms.{room_length}
 use Rattle.records.proofs.Rows.{rows_length, row_at}
 use Rattle.lexer.specs.Lex.{Result, lexed_of}
 use Rattle.lexing.specs.Begins.{Begins, begins_at, Begun}

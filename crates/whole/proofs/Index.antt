@@ -7,7 +7,7 @@ use native.Mathlib.Omega.{arith}
 use lib.ListN.{length}
 use borrow.Author.Tests.{eq-eqb}
 use Rattle.records.specs.Table.{room, token_width, error_width, index_width}
-use Rattle.records.proofs.Room.{room_length}
+use Rattle.records.proofs.Rooms.{room_length}
 use Rattle.lexer.specs.Lex.{Result, lexed_of}
 use Rattle.lexing.specs.Kept.{Keeps}
 use Rattle.lexing.proofs.Kept.{lexed_keeps}

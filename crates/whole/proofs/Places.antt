@@ -13,7 +13,7 @@ use Rattle.records.specs.declared.TokenData.{TokenData}
 use Rattle.records.specs.Table.{room, field, token_width, error_width, index_width}
 use Rattle.records.specs.Words.{token_words, error_words}
 use Rattle.records.specs.Rows.{Rows, none, more}
-use Rattle.records.proofs.Room.{room_length, lt_or_le}
+use Rattle.records.proofs.Rooms.{room_length, lt_or_le}
 use Rattle.records.proofs.Field.{field_room, field_none, field_same}
 use Rattle.records.proofs.Rows.{rows_length, row_at}
 use Rattle.lexer.specs.Lex.{Result, lexed, lexed_of}

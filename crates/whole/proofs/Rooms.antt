@@ -8,7 +8,7 @@ use borrow.Author.Tests.{eqb-true}
 use lib.Dec.{eqb}
 use lib.ListN.{length}
 use Rattle.records.specs.Table.{room, token_width, error_width, node_width, index_width}
-use Rattle.records.proofs.Room.{room_length}
+use Rattle.records.proofs.Rooms.{room_length}
 use Rattle.lexer.specs.Lex.{Result, lexed_of}
 use Rattle.lexing.proofs.Kept.{lexed_keeps}
 use Rattle.lexing.proofs.Answer.{entry, errors_within}

@@ -13,7 +13,7 @@ use Rattle.text.specs.Text.{is_text}
 use Rattle.rules.specs.Rules.{known}
 use Rattle.records.specs.Table.{room, field, zeroed, token_width, error_width, node_width, index_width}
 use Rattle.records.specs.Words.{token_words, error_words}
-use Rattle.records.proofs.Room.{room_length, lt_or_le}
+use Rattle.records.proofs.Rooms.{room_length, lt_or_le}
 use Rattle.records.proofs.Field.{field_room, field_none, field_same}
 use Rattle.records.proofs.Rest.{zeroed_length}
 use Rattle.records.proofs.Rows.{rows_length}
