@@ -8,8 +8,9 @@ use lib.Dec.{eqb}
 use lib.ListN.{length}
 use Rattle.strings.specs.declared.Reading.{Reading}
 use Rattle.std.specs.Prelude.{Ok, Err}
+use Rattle.strings.specs.declared.Closed.{Closed}
 use Rattle.std.specs.declared.ops.ControlFlow.TheVariants.{Continue}
-use Rattle.strings.specs.Strings.{Ended, Step, closed, is_escape, pick_step, step_of, and_then, read_of, begun, unless_closed, plain, decoded_from}
+use Rattle.strings.specs.Strings.{Ended, Step, is_escape, pick_step, step_of, and_then, read_of, begun, unless_closed, plain, decoded_from}
 
 -- from a state on, with k bytes left, of which d decoded bytes come
 abbrev Within : ℕ → ℕ → Reading → Ended → Type 0
@@ -68,7 +69,7 @@ sized s = at (read_of s begun) (within s begun)
     at (Err b) w = omega arith
 
 -- the length that a closed string says is that of its decoded bytes
-pub decoded_length : (s : List ℕ) (n m l : ℕ) → read_of s begun ≡ closed n m l → length (decoded_from s false) ≡ l
-decoded_length s n m l e =
-    let w : Within (length s) (length (decoded_from s false)) begun (closed n m l) = subst (Within (length s) (length (decoded_from s false)) begun) e (within s begun) in
+pub decoded_length : (s : List ℕ) (c : Closed) → read_of s begun ≡ Ok c → length (decoded_from s false) ≡ c.length
+decoded_length s c e =
+    let w : Within (length s) (length (decoded_from s false)) begun (Ok c) = subst (Within (length s) (length (decoded_from s false)) begun) e (within s begun) in
     omega arith
