@@ -9,6 +9,7 @@ use lib.ListN.{length}
 use Rattle.strings.specs.declared.Reading.{Reading}
 use Rattle.std.specs.Prelude.{Ok, Err}
 use Rattle.strings.specs.declared.Closed.{Closed}
+use Rattle.strings.specs.declared.Broken.{Broken}
 use Rattle.std.specs.declared.ops.ControlFlow.TheVariants.{Continue}
 use Rattle.strings.specs.Strings.{Ended, Step, is_escape, pick_step, step_of, and_then, read_of, begun, unless_closed, plain, decoded_from}
 
@@ -67,6 +68,13 @@ sized s = at (read_of s begun) (within s begun)
     at : (x : Ended) → Within (length s) (length (decoded_from s false)) begun x → Sized (length s) x
     at (Ok c) w = omega arith
     at (Err b) w = omega arith
+
+-- a string lies within the source
+pub closed_within : (s : List ℕ) (c : Closed) → read_of s begun ≡ Ok c → c.size ≤ length s
+closed_within s c e = (subst (Sized (length s)) e (sized s)).1
+
+pub broken_within : (s : List ℕ) (b : Broken) → read_of s begun ≡ Err b → b.size ≤ length s
+broken_within s b e = (subst (Sized (length s)) e (sized s)).0
 
 -- the length that a closed string says is that of its decoded bytes
 pub decoded_length : (s : List ℕ) (c : Closed) → read_of s begun ≡ Ok c → length (decoded_from s false) ≡ c.length
