@@ -26,7 +26,7 @@ use Rattle.items.specs.declared.Item.{Item}
 use Rattle.items.specs.declared.Item.TheVariants.{Space, Comment, Name, Text, Number, Mark, Wrong}
 use Rattle.items.specs.Items.{items}
 use Rattle.lexer.specs.Lex.{State, Result, Onward, go, stop, pick_onward, kept, and_then, no_value, token, error, step, closing, finish, emit, lexed, Lexing}
-use Rattle.lexer.specs.Steps.{Next, stopped, pick_next, Did, pick_did, on_in, emit_next, emit_table, emit_in, error_next, error_table, token_more, token_of, error_more, error_of, string_words, number_words, step_in, close_in, then_in, eof_in, finish_in, scan_in, start, answer_of, Does}
+use Rattle.lexer.specs.Steps.{Next, stop_at, stopped, pick_next, Did, pick_did, on_in, emit_next, emit_table, emit_in, error_next, error_table, token_more, token_of, error_more, error_of, string_words, number_words, step_in, close_in, then_in, eof_in, finish_in, scan_in, start, answer_of, Does}
 
 -- ---- a table t that was u at first, with n records of w words written at its front
 pub record Grown (w : ℕ) (u t : List ℕ) (n : ℕ) : Type 0 where
@@ -90,7 +90,7 @@ module _ (u f : List ℕ) where
   Agree l t e t' e' (go v) (Ok m) = (v ≡ state_of m t' e') × Both m t' e'
   Agree l t e t' e' (go v) (Err s) = ⊥
   Agree l t e t' e' (stop a) (Ok m) = ⊥
-  Agree l t e t' e' (stop a) (Err s) = (a ≡ outcome_number s.outcome) × (s.kept ≡ l) × (t' ≡ t) × (e' ≡ e)
+  Agree l t e t' e' (stop a) (Err s) = (a ≡ outcome_number s.outcome) × (s ≡ stop_at s.outcome l) × (t' ≡ t) × (e' ≡ e)
 
   abbrev Says : Result → Did → Type 0
   Says d o = Lexing d (answer_of o.next) u o.tokens f o.errors
@@ -110,7 +110,7 @@ module _ (u f : List ℕ) where
       → Says (kept a (state_of l t e)) (record { next = Err s; tokens = t'; errors = e' })
   says_stop a s l t e t' e' g h =
       subst⁻¹ (λ (b : ℕ). Says (kept b (state_of l t e)) (record { next = Err s; tokens = t'; errors = e' })) h.0
-      (subst⁻¹ (λ (m : Lexer). Says (kept (outcome_number s.outcome) (state_of l t e)) (record { next = stopped s.outcome m; tokens = t'; errors = e' })) h.1
+      (subst⁻¹ (λ (z : Stop). Says (kept (outcome_number s.outcome) (state_of l t e)) (record { next = Err z; tokens = t'; errors = e' })) h.1
       (subst⁻¹ (λ (v : List ℕ). Says (kept (outcome_number s.outcome) (state_of l t e)) (record { next = stopped s.outcome l; tokens = v; errors = e' })) h.2
       (subst⁻¹ (λ (v : List ℕ). Says (kept (outcome_number s.outcome) (state_of l t e)) (record { next = stopped s.outcome l; tokens = t; errors = v })) h.3 (says_kept s.outcome l t e g))))
 

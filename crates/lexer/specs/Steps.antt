@@ -34,8 +34,11 @@ abbrev pub Next : Type 0
 Next = Result Lexer Stop
 
 -- a stop before a step, which keeps what came before
+abbrev pub stop_at : Outcome → Lexer → Stop
+stop_at o l = record { outcome = o; tokens = l.tokens; errors = l.errors }
+
 abbrev pub stopped : Outcome → Lexer → Next
-stopped o l = Err (record { outcome = o; kept = l })
+stopped o l = Err (stop_at o l)
 
 -- n bytes further
 abbrev pub advanced : Lexer → ℕ → Lexer
@@ -157,11 +160,7 @@ pub record Does (d : Did) (r : Next) (t e : List ℕ) : Type 0 where
   pub tokens_are : t ≡ d.tokens
   pub errors_are : e ≡ d.errors
 
--- the answer with the outcome o
-abbrev pub ended : Outcome → Lexer → Scanned
-ended o l = record { outcome = outcome_number o; tokens = l.tokens; errors = l.errors }
-
 -- what is answered at the end, or at a stop
 abbrev pub answer_of : Next → Scanned
-answer_of (Ok l) = ended outcomes.Ended l
-answer_of (Err s) = ended s.outcome s.kept
+answer_of (Ok l) = record { outcome = outcome_number outcomes.Ended; tokens = l.tokens; errors = l.errors }
+answer_of (Err s) = record { outcome = outcome_number s.outcome; tokens = s.tokens; errors = s.errors }

@@ -6,7 +6,7 @@ ghost use Rattle.records.specs.Table.{room, token_width, error_width};
 ghost use Rattle.items.specs.Items.{items};
 ghost use Rattle.token.specs.Kind.{string_kind};
 ghost use Rattle.lexer.specs.Lex.{no_value, lexed_of, Lexing};
-ghost use Rattle.lexer.specs.Steps.{Within, Inside, advanced, emit_next, emit_table, error_next, error_table, string_words, number_in, step_in, close_in, finish_in, scan_in, start, answer_of, Does};
+ghost use Rattle.lexer.specs.Steps.{Within, Inside, advanced, emit_next, emit_table, error_next, error_table, string_words, number_in, step_in, close_in, finish_in, scan_in, start, stop_at, answer_of, Does};
 
 use items::Item;
 use literal::{Literal, Span, Words};
@@ -24,11 +24,12 @@ pub struct Lexer {
     pub last: u32,
 }
 
-// A lexing that stops before the end: its outcome, and the state up to there, whose tokens and errors are kept.
+// A lexing that stops before the end: its outcome, and how many tokens and errors are kept.
 #[derive(Clone, Copy)]
 pub struct Stop {
     pub outcome: Outcome,
-    pub kept: Lexer,
+    pub tokens: u32,
+    pub errors: u32,
 }
 
 // The answer: the outcome, and how many tokens and errors are kept.
@@ -44,14 +45,17 @@ impl From<Result<Lexer, Stop>> for Scanned {
     ghost from_gives = { λ r a. a ≡ answer_of r };
 
     fn from(r: Result<Lexer, Stop>) -> Scanned {
-        let (outcome, l) = match r {
-            Ok(l) => (Outcome::Ended, l),
-            Err(stop) => (stop.outcome, stop.kept),
-        };
-        Scanned {
-            outcome: outcome as u32,
-            tokens: l.tokens,
-            errors: l.errors,
+        match r {
+            Ok(l) => Scanned {
+                outcome: Outcome::Ended as u32,
+                tokens: l.tokens,
+                errors: l.errors,
+            },
+            Err(stop) => Scanned {
+                outcome: stop.outcome as u32,
+                tokens: stop.tokens,
+                errors: stop.errors,
+            },
         }
     }
 }
@@ -67,11 +71,12 @@ impl Lexer {
 
     // The lexing stops here.
     fn stop(self, outcome: Outcome) -> Stop
-        ensures { result ≡ record { outcome = outcome; kept = self } }
+        ensures { result ≡ stop_at outcome self }
     {
         Stop {
             outcome,
-            kept: self,
+            tokens: self.tokens,
+            errors: self.errors,
         }
     }
 
