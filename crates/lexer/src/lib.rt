@@ -69,7 +69,9 @@ impl Lexer {
         last: Token::EOF,
     };
 
-    // The lexing stops here.
+    // The lexing stops here. Stops are rare, so they stay out of the loop over the items.
+    #[cold]
+    #[inline(never)]
     fn stop(self, outcome: Outcome) -> Stop
         ensures { result ≡ stop_at outcome self }
     {

@@ -51,18 +51,17 @@ fn pass(t: Reading, b: u8) -> ControlFlow<Result<Closed, Broken>, Reading>
 {
     let size = t.at + 1;
     let lines = t.lines;
-    let silent = Reading {
+    let next = Reading {
         escaped: false,
         at: size,
         ..t
     };
-    let plain = Reading {
-        length: t.length + 1,
-        ..silent
-    };
     if t.escaped {
         return match unescape_sequence(b) {
-            Some(_) => ControlFlow::Continue(plain),
+            Some(_) => ControlFlow::Continue(Reading {
+                length: t.length + 1,
+                ..next
+            }),
             None => ControlFlow::Break(Err(Broken { size, lines })),
         };
     }
@@ -74,13 +73,17 @@ fn pass(t: Reading, b: u8) -> ControlFlow<Result<Closed, Broken>, Reading>
         })),
         b'\\' => ControlFlow::Continue(Reading {
             escaped: true,
-            ..silent
+            ..next
         }),
         b'\n' => ControlFlow::Continue(Reading {
+            length: t.length + 1,
             lines: lines + 1,
-            ..plain
+            ..next
         }),
-        _ => ControlFlow::Continue(plain),
+        _ => ControlFlow::Continue(Reading {
+            length: t.length + 1,
+            ..next
+        }),
     }
 }
 
