@@ -33,10 +33,11 @@ Inside l x = Within l (size_of x) (lines_of x) × (decoded_of x ≤ 65535)
 abbrev pub Next : Type 0
 Next = Result Lexer Stop
 
--- a stop before a step, which keeps what came before
+-- a stop before a step: what came before is kept
 abbrev pub stop_at : Outcome → Lexer → Stop
 stop_at o l = record { outcome = o; tokens = l.tokens; errors = l.errors }
 
+-- a step that stops there
 abbrev pub stopped : Outcome → Lexer → Next
 stopped o l = Err (stop_at o l)
 
