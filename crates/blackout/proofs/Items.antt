@@ -1,7 +1,7 @@
 -- Scripts that are alike have the same items: marks, names, and then all. Assumes nothing.
 use mathlib.Core.Path.{◌≡◌, refl, sym, ap, ◌∙◌, subst}
 use mathlib.Core.Logic.{◌⊎◌, ⊎_elim}
-use mathlib.Core.Bool.{Bool, true, false, not, ◌&&◌}
+use mathlib.Core.Bool.{Bool, true, false, not}
 use mathlib.Core.List.{List, [], ◌∷◌}
 use Prim.Native.Nat.{ℕ, zero, suc}
 use native.Mathlib.Omega.{arith}
@@ -9,12 +9,13 @@ use borrow.Author.Tests.{eqb-true}
 use lib.Dec.{T, eqb, eqb→eq}
 use lib.ListN.{take}
 use lib.Ieee.Fits.{and_l, and_r}
+use Rattle.std.specs.Prelude.{Option, Some, None}
 use Rattle.token.specs.Keyword.{keyword_of}
 use Rattle.spans.specs.Span.{is_alpha, is_digit, is_inner, run}
 use Rattle.rules.specs.Rules.{is_named}
 use Rattle.items.specs.declared.Sign.TheVariants.{Newline, Blank, Hash, Quote, Single, Pair, Illegal}
 use Rattle.items.specs.declared.Item.{Item}
-use Rattle.items.specs.declared.Item.TheVariants.{Comment, Name, Mark, Wrong}
+use Rattle.items.specs.declared.Item.TheVariants.{Comment, Name, Mark}
 use Rattle.items.specs.Items.{Class, letter, digit, sign, sign_of, pick_class, class_of, pick_item, text_item, lone, pair_at, item_as, item_of, size_of, less, items}
 use Rattle.blackout.specs.Blackout.{Place, comment, name, other, pick_place, place_of, next, may, may_begin, alike_from, alike}
 use Rattle.blackout.proofs.Near.{is_true, is_letter, steady_is, steady_name, steady_inner, near_same, begins, near}
@@ -27,19 +28,19 @@ not_letter z b c h x = ⊎_elim (λ e. e) (λ g. absurd (subst (λ (y : Class). 
 -- ---- by the rule
 module _ (rule : ℕ) where
   -- ---- marks
-  pair_same : (k l : ℕ) (s r : List ℕ) → T (alike_from rule (place_of (pair_at k l s)) s r (less (size_of (pair_at k l s)))) → pair_at k l s ≡ pair_at k l r
+  pair_same : (k : Option ℕ) (l : ℕ) (s r : List ℕ) → T (alike_from rule (place_of (pair_at k l s)) s r (less (size_of (pair_at k l s)))) → pair_at k l s ≡ pair_at k l r
   pair_same k l [] [] h = refl
   pair_same k l [] (c ∷ r) h = absurd h
   pair_same k l (b ∷ s) [] h = absurd h
   pair_same k l (b ∷ s) (c ∷ r) h = ap (λ (t : Bool). pick_item t (Mark l 2 0) (lone k)) (go (eqb b 61) refl h)
     where
-      alone : (t : Bool) → T (alike_from rule (place_of (pick_item t (Wrong 1 1 0) (Mark k 1 0))) (b ∷ s) (c ∷ r) (less (size_of (pick_item t (Wrong 1 1 0) (Mark k 1 0))))) → T (alike_from rule other (b ∷ s) (c ∷ r) 0)
-      alone true h = h
-      alone false h = h
+      alone : (j : Option ℕ) → T (alike_from rule (place_of (lone j)) (b ∷ s) (c ∷ r) (less (size_of (lone j)))) → T (alike_from rule other (b ∷ s) (c ∷ r) 0)
+      alone None h = h
+      alone (Some j) h = h
 
       go : (t : Bool) → eqb b 61 ≡ t → T (alike_from rule (place_of (pick_item t (Mark l 2 0) (lone k))) (b ∷ s) (c ∷ r) (less (size_of (pick_item t (Mark l 2 0) (lone k))))) → eqb b 61 ≡ eqb c 61
       go true e h = ap (λ (x : ℕ). eqb x 61) (eqb→eq b c (and_l (eqb b c) _ h))
-      go false e h = near_same (λ (x : ℕ). eqb x 61) (steady_is 61 (omega arith)) b c (near rule other b c s r (alone (eqb k 0) h))
+      go false e h = near_same (λ (x : ℕ). eqb x 61) (steady_is 61 (omega arith)) b c (near rule other b c s r (alone k h))
 
   -- ---- an item
   kept_item : (z : Class) (b c : ℕ) (r : List ℕ) → class_of b ≡ z → b ≡ c → item_as rule z b r ≡ item_of rule c r

@@ -8,12 +8,11 @@ use native.Mathlib.Omega.{arith}
 use borrow.Author.Tests.{le-leb, lt-leb, ne_eqb}
 use lib.Dec.{T, leb, eqb, leb→le, eqb→eq}
 use lib.Ieee.Fits.{and_l}
+use Rattle.std.specs.Prelude.{Option, Some, None, Ok, Err}
 use Rattle.spans.specs.declared.Class.TheVariants as classes
 use Rattle.spans.specs.Span.{is_alpha, is_digit, is_inner, in_class}
 use Rattle.rules.specs.Rules.{is_two, is_named}
-use Rattle.strings.specs.declared.Ended.{Ended}
-use Rattle.strings.specs.declared.Ended.TheVariants.{Closed, Broken}
-use Rattle.strings.specs.Strings.{read_of, begun}
+use Rattle.strings.specs.Strings.{Ended, read_of, begun}
 use Rattle.items.specs.declared.Sign.TheVariants.{Newline, Blank, Hash, Quote, Single, Pair, Illegal}
 use Rattle.items.specs.declared.Item.{Item}
 use Rattle.items.specs.declared.Item.TheVariants.{Mark, Wrong}
@@ -92,19 +91,19 @@ letter_name x e = go (is_alpha x) (is_digit x) e
     go false false e = subst (λ (c : Class). T (not (is_letter c))) e tt
 
 -- what holds of the three items that a pair can be
-pub pair_cases : (P : Item → Type 0) (k l : ℕ) (s : List ℕ) → P (Wrong 1 1 0) → P (Mark k 1 0) → P (Mark l 2 0) → P (pair_at k l s)
+pub pair_cases : (P : Item → Type 0) (k : Option ℕ) (l : ℕ) (s : List ℕ) → P (Wrong 1 1 0) → ((j : ℕ) → P (Mark j 1 0)) → P (Mark l 2 0) → P (pair_at k l s)
 pair_cases P k l s w m n = at s
   where
-    alone : (t : Bool) → P (pick_item t (Wrong 1 1 0) (Mark k 1 0))
-    alone true = w
-    alone false = m
+    alone : (j : Option ℕ) → P (lone j)
+    alone None = w
+    alone (Some j) = m j
 
     two : (t : Bool) → P (pick_item t (Mark l 2 0) (lone k))
     two true = n
-    two false = alone (eqb k 0)
+    two false = alone k
 
     at : (u : List ℕ) → P (pair_at k l u)
-    at [] = alone (eqb k 0)
+    at [] = alone k
     at (x ∷ u) = two (eqb x 61)
 
 -- the first byte of an item stays, or becomes a letter
@@ -126,10 +125,10 @@ module _ (rule : ℕ) where
   begins (sign Quote) b c s r h = inl (eqb→eq b c (go (read_of s begun) h))
     where
       go : (x : Ended) → T (may_begin (place_of (text_item x)) (size_of (text_item x)) b c r) → T (eqb b c)
-      go (Closed n m l) h = h
-      go (Broken n m) h = h
+      go (Ok x) h = h
+      go (Err x) h = h
   begins (sign (Single k)) b c s r h = inl (eqb→eq b c h)
-  begins (sign (Pair k l)) b c s r h = inl (eqb→eq b c (pair_cases (λ x. T (may_begin (place_of x) (size_of x) b c r) → T (eqb b c)) k l s (λ t. t) (λ t. t) (λ t. t) h))
+  begins (sign (Pair k l)) b c s r h = inl (eqb→eq b c (pair_cases (λ x. T (may_begin (place_of x) (size_of x) b c r) → T (eqb b c)) k l s (λ t. t) (λ j t. t) (λ t. t) h))
   begins (sign Illegal) b c s r h = inl (eqb→eq b c h)
 
   pub near : (p : Place) (b c : ℕ) (s r : List ℕ) → T (alike_from rule p (b ∷ s) (c ∷ r) 0) → Near b c

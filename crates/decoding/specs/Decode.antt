@@ -1,16 +1,15 @@
 -- The decoding of one string (docs/RULES.md, 'Decoding'): the outcome, and what is written.
-use Rattle.std.specs.Prelude.{ℕ, ◌≡◌, Bool, true, false, not, List, [], ◌∷◌, ◌++◌, ltb, eqb, length, drop}
+use Rattle.std.specs.Prelude.{ℕ, ◌≡◌, Bool, true, false, not, Result, Ok, Err, List, [], ◌∷◌, ◌++◌, ltb, eqb, length, drop}
 use Rattle.text.specs.Text.{is_text}
+use Rattle.records.specs.declared.Outcome.{Outcome}
 use Rattle.records.specs.Outcomes as outcomes
-use Rattle.strings.specs.declared.Ended.{Ended}
-use Rattle.strings.specs.declared.Ended.TheVariants.{Closed, Broken}
-use Rattle.strings.specs.Strings.{read_of, begun, decoded_from}
+use Rattle.strings.specs.Strings.{Ended, read_of, begun, decoded_from}
 use Rattle.decoding.specs.declared.Decoded.{Decoded}
 
 -- whether the reading reached a closing quote
 abbrev pub is_closed : Ended → Bool
-is_closed (Closed n m l) = true
-is_closed (Broken n m) = false
+is_closed (Ok c) = true
+is_closed (Err b) = false
 
 -- what decoding a string comes to: the outcome and the decoded bytes
 pub record Decode : Type 0 where
@@ -43,6 +42,11 @@ decode_at (b ∷ s) room = pick_decode (eqb b 34) (decode_from s room) (refused 
 unfoldable pub decode_of : List ℕ → ℕ → ℕ → Decode
 decode_of source start room =
     pick_decode (ltb 65535 (length source)) (refused outcomes.too_long) (pick_decode (not (is_text source)) (refused outcomes.not_text) (decode_at (drop start source) room))
+
+-- what a decoding answers: the outcome, and the length that it wrote; a refusal says length 0
+abbrev pub decoded : Result ℕ Outcome → Decoded
+decoded (Ok n) = record { outcome = outcomes.ended; length = n }
+decoded (Err o) = record { outcome = outcomes.outcome_number o; length = 0 }
 
 -- what a decoding returns and leaves: the outcome, the number of decoded bytes, and the buffer, changed only where those bytes stand
 pub record Decoding (d : Decode) (r : Decoded) (before after : List ℕ) : Type 0 where

@@ -3,10 +3,9 @@
 
 ghost use Rattle.std.specs.Prelude.{◌≡◌, ◌++◌, false, ◌≤◌, length, drop};
 ghost use Rattle.strings.specs.Strings.{decoded_from};
-ghost use Rattle.decoding.specs.Decode.{decode_from, decode_of, Decoding};
+ghost use Rattle.decoding.specs.Decode.{decode_from, decode_of, decoded, Decoding};
 
 use records::Outcome;
-use strings::Ended;
 
 // What a decoding answers: the outcome, and how many bytes of the buffer it wrote.
 #[repr(C)]
@@ -16,21 +15,36 @@ pub struct Decoded {
     pub length: usize,
 }
 
-// Writes the decoded bytes of a string from the front of the buffer. The place moves on before the tests, so that no code stands where their arms would meet.
+// A success is the outcome 0 with the length, and a refusal says length 0.
+impl From<Result<usize, Outcome>> for Decoded {
+    ghost from_gives = { λ r d. d ≡ decoded r };
+
+    fn from(r: Result<usize, Outcome>) -> Decoded {
+        match r {
+            Ok(length) => Decoded {
+                outcome: Outcome::Ended as u32,
+                length,
+            },
+            Err(outcome) => Decoded {
+                outcome: outcome as u32,
+                length: 0,
+            },
+        }
+    }
+}
+
+// Writes the decoded bytes of a string from the front of the buffer.
 fn write(s: &[u8], from: usize, buffer: &mut [u8])
     requires { length (decoded_from (drop from s.now) false) ≤ length buffer.old }
     ensures { buffer.new ≡ decoded_from (drop from s.now) false
         ++ drop (length (decoded_from (drop from s.now) false)) buffer.old }
 {
-    let mut at = from;
     let mut n = 0;
     let mut escaped = false;
-    while at < s.len() {
-        let b = s[at];
-        at = at + 1;
+    for &b in s.get(from..).unwrap_or(&[]) {
         if escaped {
-            buffer[n] = strings::unescape_sequence(b);
-            n = n + 1;
+            buffer[n] = strings::unescape_sequence(b).unwrap_or(0);
+            n += 1;
             escaped = false;
         } else if b == b'"' {
             return;
@@ -38,51 +52,44 @@ fn write(s: &[u8], from: usize, buffer: &mut [u8])
             escaped = true;
         } else {
             buffer[n] = b;
-            n = n + 1;
+            n += 1;
         }
     }
-}
-
-// A refusal says length 0.
-fn refuse(outcome: u32) -> Decoded
-    ensures { result ≡ record { outcome = outcome; length = 0 } }
-{
-    Decoded { outcome, length: 0 }
 }
 
 // Decodes the string whose opening quote stands at start. A refusal writes nothing.
 pub fn decode(source: &[u8], start: usize, buffer: &mut [u8]) -> Decoded
     ensures { Decoding (decode_of source.now start (length buffer.old)) result buffer.old buffer.new }
 {
+    Decoded::from(try_decode(source, start, buffer))
+}
+
+// The same, as the length or the refusal's outcome.
+#[tactic(auto, unfolding(crate::specs::Decode::decode_of))]
+fn try_decode(source: &[u8], start: usize, buffer: &mut [u8]) -> Result<usize, Outcome>
+    ensures { Decoding (decode_of source.now start (length buffer.old)) (decoded result) buffer.old buffer.new }
+{
     if source.len() > 65535 {
-        return refuse(Outcome::TooLong as u32);
+        return Err(Outcome::TooLong);
     }
     if !text::is_text(source) {
-        return refuse(Outcome::NotText as u32);
+        return Err(Outcome::NotText);
     }
-    if start >= source.len() {
-        return refuse(Outcome::NotAString as u32);
-    }
-    if source[start] != b'"' {
-        return refuse(Outcome::NotAString as u32);
+    if source.get(start) != Some(&b'"') {
+        return Err(Outcome::NotAString);
     }
     decode_from(source, start + 1, buffer)
 }
 
 // Decodes a string from the byte after its opening quote.
-fn decode_from(s: &[u8], from: usize, buffer: &mut [u8]) -> Decoded
-    ensures { Decoding (decode_from (drop from s.now) (length buffer.old)) result buffer.old buffer.new }
+#[tactic(auto, using(strings::proofs::Sizes::decoded_length))]
+fn decode_from(s: &[u8], from: usize, buffer: &mut [u8]) -> Result<usize, Outcome>
+    ensures { Decoding (decode_from (drop from s.now) (length buffer.old)) (decoded result) buffer.old buffer.new }
 {
-    let ended = strings::string(s, from);
-    let Ended::Closed { length, .. } = ended else {
-        return refuse(Outcome::NotAString as u32);
-    };
-    if buffer.len() < length {
-        return refuse(Outcome::NoBufferRoom as u32);
+    let closed = strings::string(s, from).map_err(|_| Outcome::NotAString)?;
+    if buffer.len() < closed.length {
+        return Err(Outcome::NoBufferRoom);
     }
     write(s, from, buffer);
-    Decoded {
-        outcome: Outcome::Ended as u32,
-        length,
-    }
+    Ok(closed.length)
 }

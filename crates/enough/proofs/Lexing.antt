@@ -10,6 +10,7 @@ use lib.Dec.{T, leb, ltb, eqb, leb→le}
 use lib.Ieee.Fits.{and_l, and_r}
 use lib.ListN.{length, get_or, take, length-append}
 use lib.Seq.{get_or-append-add}
+use Rattle.std.specs.Prelude.{Option, Some, None, Ok, Err}
 use Rattle.token.specs.Keyword.{keyword_of}
 use Rattle.token.proofs.Sized.{of_length}
 use Rattle.spans.specs.Span.{is_alpha, is_digit, run}
@@ -20,9 +21,7 @@ use Rattle.records.specs.Table.{room, token_width}
 use Rattle.records.specs.Words.{token_words}
 use Rattle.records.proofs.Rooms.{lt_or_le}
 use Rattle.records.proofs.Field.{field_room, field_none}
-use Rattle.strings.specs.declared.Ended.{Ended}
-use Rattle.strings.specs.declared.Ended.TheVariants.{Closed, Broken}
-use Rattle.strings.specs.Strings.{read_of, begun}
+use Rattle.strings.specs.Strings.{Ended, read_of, begun}
 use Rattle.items.specs.declared.Sign.{Sign}
 use Rattle.items.specs.declared.Sign.TheVariants.{Newline, Blank, Hash, Quote, Single, Pair, Illegal}
 use Rattle.items.specs.declared.Item.{Item}
@@ -49,14 +48,18 @@ kind_of (Wrong e n m) = 0
 abbrev Pays : Item → Type 0
 Pays x = allows errors (kind_of x) ≤ 2 * size_of x
 
--- a mark of one byte allows two
+-- a mark of one byte allows two, and one that has no kind alone is no token
+abbrev fit_alone : Option ℕ → Bool
+fit_alone None = true
+fit_alone (Some k) = leb (allows errors k) 2
+
 abbrev fit : Sign → Bool
 fit Newline = true
 fit Blank = true
 fit Hash = true
 fit Quote = true
 fit (Single k) = leb (allows errors k) 2
-fit (Pair k l) = leb (allows errors k) 2
+fit (Pair k l) = fit_alone k
 fit Illegal = true
 
 abbrev all_fit : List Row → Bool
@@ -75,16 +78,17 @@ either : (b : Bool) (x y : Item) → Pays x → Pays y → Pays (pick_item b x y
 either true x y h i = h
 either false x y h i = i
 
-lone_pays : (k : ℕ) → allows errors k ≤ 2 → Pays (lone k)
-lone_pays k h = either (eqb k 0) (Wrong 1 1 0) (Mark k 1 0) (omega arith) (omega arith)
+lone_pays : (k : Option ℕ) → T (fit_alone k) → Pays (lone k)
+lone_pays None t = omega arith
+lone_pays (Some k) t = leb→le (allows errors k) 2 t
 
-pair_pays : (k l : ℕ) (s : List ℕ) → allows errors k ≤ 2 → Pays (pair_at k l s)
+pair_pays : (k : Option ℕ) (l : ℕ) (s : List ℕ) → T (fit_alone k) → Pays (pair_at k l s)
 pair_pays k l [] h = lone_pays k h
 pair_pays k l (x ∷ s) h = let m = allows_errors l in either (eqb x 61) (Mark l 2 0) (lone k) (omega arith) (lone_pays k h)
 
 text_pays : (x : Ended) → Pays (text_item x)
-text_pays (Closed n m l) = omega arith
-text_pays (Broken n m) = omega arith
+text_pays (Ok c) = omega arith
+text_pays (Err b) = omega arith
 
 -- no keyword has one letter
 letter_kind : (b : ℕ) → 25 ≡ keyword_of (b ∷ [])
@@ -100,7 +104,7 @@ as_pays rule Blank b s t = omega arith
 as_pays rule Hash b s t = omega arith
 as_pays rule Quote b s t = text_pays (read_of s begun)
 as_pays rule (Single k) b s t = leb→le (allows errors k) 2 t
-as_pays rule (Pair k l) b s t = pair_pays k l s (leb→le (allows errors k) 2 t)
+as_pays rule (Pair k l) b s t = pair_pays k l s t
 as_pays rule Illegal b s t = omega arith
 
 item_pays : (rule b : ℕ) (s : List ℕ) → Pays (item_of rule b s)

@@ -7,19 +7,16 @@ use native.Mathlib.Omega.{arith}
 use lib.Dec.{eqb}
 use lib.ListN.{length, get_or, drop, length-drop}
 use lib.Seq.{drop-cons}
-use Rattle.token.specs.Kind.{eof_kind}
-use Rattle.records.specs.Messages.{lone_bang}
 use Rattle.spans.specs.Span.{is_inner}
 use Rattle.spans.proofs.Run.{run_le}
 use Rattle.rules.specs.Rules.{is_named}
 use Rattle.numbers.proofs.Join.{number_le}
-use Rattle.strings.specs.declared.Ended.{Ended}
-use Rattle.strings.specs.declared.Ended.TheVariants.{Closed, Broken}
-use Rattle.strings.specs.Strings.{read_of, begun}
+use Rattle.std.specs.Prelude.{Option, Some, None, Ok, Err}
+use Rattle.strings.specs.Strings.{Ended, read_of, begun}
 use Rattle.strings.proofs.Sizes.{Sized, sized}
 use Rattle.items.specs.declared.Sign.TheVariants.{Newline, Blank, Hash, Quote, Single, Pair, Illegal}
 use Rattle.items.specs.declared.Item.{Item}
-use Rattle.items.specs.declared.Item.TheVariants.{Mark, Wrong}
+use Rattle.items.specs.declared.Item.TheVariants.{Mark}
 use Rattle.items.specs.Items.{Class, letter, digit, sign, class_of, pick_item, text_item, lone, pair_at, item_as, item_of, item_at, size_of, lines_of, decoded_of}
 
 abbrev pub Bounded : ℕ → Item → Type 0
@@ -29,16 +26,17 @@ either : (b : Bool) (k : ℕ) (x y : Item) → Bounded k x → Bounded k y → B
 either true k x y h i = h
 either false k x y h i = i
 
-lone_bounded : (k n : ℕ) → Bounded (suc n) (lone k)
-lone_bounded k n = either (eqb k eof_kind) (suc n) (Wrong lone_bang 1 0) (Mark k 1 0) (omega arith) (omega arith)
+lone_bounded : (k : Option ℕ) (n : ℕ) → Bounded (suc n) (lone k)
+lone_bounded None n = omega arith
+lone_bounded (Some k) n = omega arith
 
-pair_bounded : (k l : ℕ) (s : List ℕ) → Bounded (suc (length s)) (pair_at k l s)
+pair_bounded : (k : Option ℕ) (l : ℕ) (s : List ℕ) → Bounded (suc (length s)) (pair_at k l s)
 pair_bounded k l [] = lone_bounded k 0
 pair_bounded k l (x ∷ s) = either (eqb x 61) (suc (suc (length s))) (Mark l 2 0) (lone k) (omega arith) (lone_bounded k (suc (length s)))
 
 text_bounded : (k : ℕ) (x : Ended) → Sized k x → Bounded (suc k) (text_item x)
-text_bounded k (Closed n m l) h = omega arith
-text_bounded k (Broken n m) h = omega arith
+text_bounded k (Ok c) h = omega arith
+text_bounded k (Err b) h = omega arith
 
 as_bounded : (rule : ℕ) (z : Class) (b : ℕ) (s : List ℕ) → Bounded (suc (length s)) (item_as rule z b s)
 as_bounded rule letter b s = let h = run_le (is_named rule) s in omega arith

@@ -1,4 +1,2 @@
-pub mod Signs
-pub mod Found
 pub mod Bounds
 pub mod One

@@ -1,14 +1,12 @@
 -- Rules 1 to 6 of docs/RULES.md, 'Lexing', first phase: bytes to items. An item has all that its bytes give, and no place, no line and no byte. `Rules` says what rule two changes.
-use Rattle.std.specs.Prelude.{ℕ, zero, suc, Bool, true, false, List, [], ◌∷◌, eqb, take}
+use Rattle.std.specs.Prelude.{ℕ, zero, suc, Bool, true, false, Option, Some, None, Ok, Err, List, [], ◌∷◌, eqb, take}
 use Rattle.token.specs.Kind as kinds
 use Rattle.token.specs.Keyword.{keyword_of}
 use Rattle.spans.specs.Span.{is_alpha, is_digit, is_inner, run}
 use Rattle.rules.specs.Rules.{is_named, stops_at}
 use Rattle.numbers.specs.declared.Numeral.{Numeral}
 use Rattle.numbers.specs.Number.{number_of}
-use Rattle.strings.specs.declared.Ended.{Ended}
-use Rattle.strings.specs.declared.Ended.TheVariants.{Closed, Broken}
-use Rattle.strings.specs.Strings.{read_of, begun}
+use Rattle.strings.specs.Strings.{Ended, read_of, begun}
 use Rattle.records.specs.Messages.{lone_bang, illegal_character, unclosed_string}
 use Rattle.items.specs.declared.Sign.{Sign}
 use Rattle.items.specs.declared.Sign.TheVariants.{Newline, Blank, Hash, Quote, Single, Pair, Illegal}
@@ -31,7 +29,7 @@ abbrev pub find : ℕ → List Row → Sign
 find b [] = Illegal
 find b (x ∷ xs) = pick_sign (eqb b x.byte) x.is (find b xs)
 
--- the marks with their kinds; of a mark that may have = after it the kind alone (EOF's for !, which is no token then) and the kind with it
+-- the marks with their kinds; of a mark that may have = after it the kind alone (! has none, being no token then) and the kind with it
 abbrev pub signs : List Row
 signs =
     record { byte = 10; is = Newline } ∷  -- newline
@@ -40,10 +38,10 @@ signs =
     record { byte = 13; is = Blank } ∷  -- carriage return
     record { byte = 35; is = Hash } ∷  -- #
     record { byte = 34; is = Quote } ∷  -- "
-    record { byte = 33; is = Pair kinds.eof_kind kinds.bang_equal_kind } ∷  -- !
-    record { byte = 61; is = Pair kinds.equal_kind kinds.equal_equal_kind } ∷  -- =
-    record { byte = 62; is = Pair kinds.greater_kind kinds.greater_equal_kind } ∷  -- >
-    record { byte = 60; is = Pair kinds.less_kind kinds.less_equal_kind } ∷  -- <
+    record { byte = 33; is = Pair None kinds.bang_equal_kind } ∷  -- !
+    record { byte = 61; is = Pair (Some kinds.equal_kind) kinds.equal_equal_kind } ∷  -- =
+    record { byte = 62; is = Pair (Some kinds.greater_kind) kinds.greater_equal_kind } ∷  -- >
+    record { byte = 60; is = Pair (Some kinds.less_kind) kinds.less_equal_kind } ∷  -- <
     record { byte = 40; is = Single kinds.left_paren_kind } ∷  -- (
     record { byte = 41; is = Single kinds.right_paren_kind } ∷  -- )
     record { byte = 91; is = Single kinds.left_brace_kind } ∷  -- [
@@ -89,15 +87,16 @@ pick_item false a b = b
 
 -- rule 5: a string that closes is a token; else it is a message
 abbrev pub text_item : Ended → Item
-text_item (Closed n m l) = Text (suc n) m l
-text_item (Broken n m) = Wrong unclosed_string (suc n) m
+text_item (Ok c) = Text (suc c.size) c.lines c.length
+text_item (Err b) = Wrong unclosed_string (suc b.size) b.lines
 
 -- rule 6: a message for a lone !, which has no kind
-abbrev pub lone : ℕ → Item
-lone k = pick_item (eqb k kinds.eof_kind) (Wrong lone_bang 1 0) (Mark k 1 0)
+abbrev pub lone : Option ℕ → Item
+lone None = Wrong lone_bang 1 0
+lone (Some k) = Mark k 1 0
 
 -- rule 6: ==, !=, <= and >= are one token where the two bytes stand together; 61 is =
-abbrev pub pair_at : ℕ → ℕ → List ℕ → Item
+abbrev pub pair_at : Option ℕ → ℕ → List ℕ → Item
 pair_at k l [] = lone k
 pair_at k l (x ∷ s) = pick_item (eqb x 61) (Mark l 2 0) (lone k)
 

@@ -8,7 +8,7 @@ ghost use Rattle.items.specs.Items.{sign_of, name_at, number_item, text_item, pa
 
 use numbers::Numeral;
 use records::Message;
-use strings::Ended;
+use strings::{Broken, Closed};
 use token::Token;
 
 // What a byte is that is no letter and no digit.
@@ -21,8 +21,8 @@ pub enum Sign {
     Quote,
     // A mark of one byte: its kind.
     Single(u32),
-    // A mark that may have `=` after it: its kind alone (EOF's for `!`, which is none), and with it.
-    Pair(u32, u32),
+    // A mark that may have `=` after it: its kind alone (`!` has none), and with it.
+    Pair(Option<u32>, u32),
     Illegal,
 }
 
@@ -53,23 +53,28 @@ pub enum Item {
     },
 }
 
+impl Item {
+    // A newline.
+    const LINE: Item = Item::Mark {
+        kind: Token::NEWLINE,
+        size: 1,
+        lines: 1,
+    };
+}
+
 // What stands at i; past the end a blank. Blanks and newlines are asked for first: they are the commonest.
+#[tactic(auto, unfolding(crate::specs::Items::sign_of))]
 pub fn item_at(rule: u32, s: &[u8], i: usize) -> Item
     ensures { result ≡ item_at rule (drop i s.now) }
 {
-    if i >= s.len() {
+    let Some(&c) = s.get(i) else {
         return Item::Space;
-    }
-    let c = s[i];
+    };
     if c == b' ' {
         return Item::Space;
     }
     if c == b'\n' {
-        return Item::Mark {
-            kind: Token::NEWLINE,
-            size: 1,
-            lines: 1,
-        };
+        return Item::LINE;
     }
     item_of(rule, s, i)
 }
@@ -87,21 +92,13 @@ fn item_of(rule: u32, s: &[u8], i: usize) -> Item
         return number(rule, s, i);
     }
     match sign_of(c) {
-        Sign::Newline => Item::Mark {
-            kind: Token::NEWLINE,
-            size: 1,
-            lines: 1,
-        },
+        Sign::Newline => Item::LINE,
         Sign::Blank => Item::Space,
         Sign::Hash => Item::Comment(spans::comment_end(s, i + 1) - i),
         Sign::Quote => string(s, i),
         Sign::Single(kind) => mark(kind),
         Sign::Pair(alone, with) => pair(s, i, alone, with),
-        Sign::Illegal => Item::Wrong {
-            message: Message::ILLEGAL_CHARACTER,
-            size: 1,
-            lines: 0,
-        },
+        Sign::Illegal => wrong(Message::ILLEGAL_CHARACTER),
     }
 }
 
@@ -124,10 +121,8 @@ fn number(rule: u32, s: &[u8], i: usize) -> Item
 {
     let n = numbers::number(s, i);
     Item::Number(Numeral {
-        size: n.size,
-        whole: n.whole,
-        places: n.places,
         cut: rules::stops_at(rule, n.cut),
+        ..n
     })
 }
 
@@ -137,16 +132,18 @@ fn string(s: &[u8], i: usize) -> Item
     ensures { result ≡ text_item (read_of (drop (i + 1) s.now) begun) }
 {
     match strings::string(s, i + 1) {
-        Ended::Closed {
-            size,
-            lines,
-            length,
-        } => Item::Text {
+        Ok(
+            Closed {
+                size,
+                lines,
+                length,
+            },
+        ) => Item::Text {
             size: size + 1,
             lines,
             length,
         },
-        Ended::Broken { size, lines } => Item::Wrong {
+        Err(Broken { size, lines }) => Item::Wrong {
             message: Message::UNCLOSED_STRING,
             size: size + 1,
             lines,
@@ -161,15 +158,13 @@ pub fn sign_of(c: u8) -> Sign
 {
     match c {
         b'\n' => Sign::Newline,
-        b' ' => Sign::Blank,
-        b'\t' => Sign::Blank,
-        b'\r' => Sign::Blank,
+        b' ' | b'\t' | b'\r' => Sign::Blank,
         b'#' => Sign::Hash,
         b'"' => Sign::Quote,
-        b'!' => Sign::Pair(Token::EOF, Token::BANG_EQUAL),
-        b'=' => Sign::Pair(Token::EQUAL, Token::EQUAL_EQUAL),
-        b'>' => Sign::Pair(Token::GREATER, Token::GREATER_EQUAL),
-        b'<' => Sign::Pair(Token::LESS, Token::LESS_EQUAL),
+        b'!' => Sign::Pair(None, Token::BANG_EQUAL),
+        b'=' => Sign::Pair(Some(Token::EQUAL), Token::EQUAL_EQUAL),
+        b'>' => Sign::Pair(Some(Token::GREATER), Token::GREATER_EQUAL),
+        b'<' => Sign::Pair(Some(Token::LESS), Token::LESS_EQUAL),
         b'(' => Sign::Single(Token::LEFT_PAREN),
         b')' => Sign::Single(Token::RIGHT_PAREN),
         b'[' => Sign::Single(Token::LEFT_BRACE),
@@ -201,27 +196,31 @@ fn mark(kind: u32) -> Item
     }
 }
 
+// A message about one byte.
+fn wrong(message: u32) -> Item
+    ensures { result ≡ Item.Wrong message 1 0 }
+{
+    Item::Wrong {
+        message,
+        size: 1,
+        lines: 0,
+    }
+}
+
 // A mark that may have `=` after it, at i. A lone `!` is a message.
-fn pair(s: &[u8], i: usize, alone: u32, with: u32) -> Item
+fn pair(s: &[u8], i: usize, alone: Option<u32>, with: u32) -> Item
     requires { i < length s.now }
     ensures { result ≡ pair_at alone with (drop (i + 1) s.now) }
 {
-    let j = i + 1;
-    if j < s.len() {
-        if s[j] == b'=' {
-            return Item::Mark {
-                kind: with,
-                size: 2,
-                lines: 0,
-            };
-        }
-    }
-    if alone == Token::EOF {
-        return Item::Wrong {
-            message: Message::LONE_BANG,
-            size: 1,
+    if s.get(i + 1) == Some(&b'=') {
+        return Item::Mark {
+            kind: with,
+            size: 2,
             lines: 0,
         };
     }
-    mark(alone)
+    match alone {
+        Some(kind) => mark(kind),
+        None => wrong(Message::LONE_BANG),
+    }
 }

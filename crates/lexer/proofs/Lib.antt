@@ -1,4 +1,2 @@
-pub mod Pushed
-pub mod Flow
 pub mod Turn
 pub mod Tables

@@ -1,6 +1,6 @@
 -- The second phase once more over the lent tables themselves, step by step as the code goes: what the lexer's private functions promise.
 -- Items and Lex are enough to know what the lexer means. It is proved that this file says the same as Lex.
-use Rattle.std.specs.Prelude.{ℕ, ◌+◌, ◌≤◌, ◌≡◌, Bool, true, false, not, ◌&&◌, List, [], ◌∷◌, ltb, eqb}
+use Rattle.std.specs.Prelude.{ℕ, ◌+◌, ◌≤◌, ◌≡◌, Bool, true, false, not, ◌&&◌, Result, Ok, Err, List, [], ◌∷◌, ltb, eqb}
 use Rattle.token.specs.Kind as kinds
 use Rattle.literal.specs.declared.Words.{Words}
 use Rattle.literal.specs.declared.Literal.TheVariants as literals
@@ -10,19 +10,36 @@ use Rattle.records.specs.declared.TokenData.{TokenData}
 use Rattle.records.specs.declared.InterpreterError.{InterpreterError}
 use Rattle.records.specs.Table.{room, put, token_width, error_width}
 use Rattle.records.specs.Words.{token_words, error_words}
-use Rattle.records.specs.Outcomes as outcomes
+use Rattle.records.specs.declared.Outcome.{Outcome}
+use Rattle.records.specs.declared.Outcome.TheVariants as outcomes
+use Rattle.records.specs.Outcomes.{outcome_number}
 use Rattle.lexer.specs.declared.Lexer.{Lexer}
 use Rattle.lexer.specs.declared.Scanned.{Scanned}
-use Rattle.lexer.specs.declared.Next.{Next}
-use Rattle.lexer.specs.declared.Next.TheVariants.{On, Stop}
+use Rattle.lexer.specs.declared.Stop.{Stop}
 use Rattle.items.specs.declared.Item.{Item}
 use Rattle.items.specs.declared.Item.TheVariants.{Space, Comment, Name, Text, Number, Mark, Wrong}
 use Rattle.items.specs.Items.{size_of, lines_of, decoded_of}
 use Rattle.lexer.specs.Lex.{no_value, token_at}
 
--- an item that lies within a source of at most 65,535 bytes: its words fit
+-- n bytes and m newlines more lie within a source of at most 65,535 bytes: their words fit
+abbrev pub Within : Lexer → ℕ → ℕ → Type 0
+Within l n m = (l.current + n ≤ 65535) × (l.line + m ≤ 65536)
+
+-- an item that lies within such a source
 abbrev pub Inside : Lexer → Item → Type 0
-Inside l x = (l.current + size_of x ≤ 65535) × (l.line + lines_of x ≤ 65536) × (decoded_of x ≤ 65535)
+Inside l x = Within l (size_of x) (lines_of x) × (decoded_of x ≤ 65535)
+
+-- the lexing goes on, or stops with an outcome and what is kept
+abbrev pub Next : Type 0
+Next = Result Lexer Stop
+
+-- a stop before a step: what came before is kept
+abbrev pub stop_at : Outcome → Lexer → Stop
+stop_at o l = record { outcome = o; tokens = l.tokens; errors = l.errors }
+
+-- a step that stops there
+abbrev pub stopped : Outcome → Lexer → Next
+stopped o l = Err (stop_at o l)
 
 -- n bytes further
 abbrev pub advanced : Lexer → ℕ → Lexer
@@ -62,11 +79,11 @@ pick_did false a b = b
 
 -- nothing is written
 abbrev pub on_in : Lexer → List ℕ → List ℕ → Did
-on_in l t e = record { next = On l; tokens = t; errors = e }
+on_in l t e = record { next = Ok l; tokens = t; errors = e }
 
 -- a token: how it goes on, and the token table
 abbrev pub emit_next : Lexer → ℕ → ℕ → ℕ → List ℕ → Next
-emit_next l kind n m t = pick_next (ltb l.tokens (room token_width t)) (On (token_more l kind n m)) (Stop outcomes.no_token_room)
+emit_next l kind n m t = pick_next (ltb l.tokens (room token_width t)) (Ok (token_more l kind n m)) (stopped outcomes.NoTokenRoom l)
 
 -- the token table with the token, as far as it has room
 abbrev pub emit_table : Lexer → ℕ → ℕ → ℕ → Words → List ℕ → List ℕ
@@ -78,7 +95,7 @@ emit_in l kind n m w t e = record { next = emit_next l kind n m t; tokens = emit
 
 -- a message: how it goes on, and the error table
 abbrev pub error_next : Lexer → ℕ → ℕ → List ℕ → Next
-error_next l n m e = pick_next (ltb l.errors (room error_width e)) (On (error_more l n m)) (Stop outcomes.no_error_room)
+error_next l n m e = pick_next (ltb l.errors (room error_width e)) (Ok (error_more l n m)) (stopped outcomes.NoErrorRoom l)
 
 -- the error table with the error, as far as it has room
 abbrev pub error_table : Lexer → ℕ → ℕ → List ℕ → List ℕ
@@ -95,7 +112,7 @@ number_words l size whole places = words_of (value_of whole places (record { sta
 -- a number with a point that runs to the last byte stops, any other is a token
 abbrev pub number_in : Numeral → Lexer → List ℕ → List ℕ → Did
 number_in x l t e =
-    pick_did x.cut (record { next = Stop outcomes.number_at_end; tokens = t; errors = e })
+    pick_did x.cut (record { next = stopped outcomes.NumberAtEnd l; tokens = t; errors = e })
     (emit_in l kinds.number_kind x.size 0 (number_words l x.size x.whole x.places) t e)
 
 -- one item
@@ -112,37 +129,27 @@ step_in (Wrong message n m) l t e = record { next = error_next l n m e; tokens =
 abbrev pub close_in : Lexer → List ℕ → List ℕ → Did
 close_in l t e = pick_did (ltb 0 l.tokens && not (eqb l.last kinds.newline_kind)) (emit_in l kinds.newline_kind 0 0 no_value t e) (on_in l t e)
 
--- the answer with the outcome o
-abbrev pub ended : ℕ → Lexer → Scanned
-ended o l = record { outcome = o; tokens = l.tokens; errors = l.errors }
-
--- what the lexing does: its answer, and the tables afterwards
-pub record Done : Type 0 where
-  pub answer : Scanned
-  pub tokens : List ℕ
-  pub errors : List ℕ
-
 -- on with the next state and the tables; a stop ends there
-abbrev pub then_in : Next → List ℕ → List ℕ → Lexer → (Lexer → List ℕ → List ℕ → Done) → Done
-then_in (On m) t e l k = k m t e
-then_in (Stop o) t e l k = record { answer = ended o l; tokens = t; errors = e }
+abbrev pub then_in : Next → List ℕ → List ℕ → (Lexer → List ℕ → List ℕ → Did) → Did
+then_in (Ok m) t e k = k m t e
+then_in (Err s) t e k = record { next = Err s; tokens = t; errors = e }
 
 -- the same after a step
-abbrev pub and_then_in : Did → Lexer → (Lexer → List ℕ → List ℕ → Done) → Done
-and_then_in d l k = then_in d.next d.tokens d.errors l k
+abbrev pub and_then_in : Did → (Lexer → List ℕ → List ℕ → Did) → Did
+and_then_in d k = then_in d.next d.tokens d.errors k
 
 -- rule 7's EOF
-abbrev pub eof_in : Lexer → List ℕ → List ℕ → Done
-eof_in l t e = and_then_in (emit_in l kinds.eof_kind 0 0 no_value t e) l (λ m u f. record { answer = ended outcomes.ended m; tokens = u; errors = f })
+abbrev pub eof_in : Lexer → List ℕ → List ℕ → Did
+eof_in l t e = emit_in l kinds.eof_kind 0 0 no_value t e
 
 -- rule 7
-abbrev pub finish_in : Lexer → List ℕ → List ℕ → Done
-finish_in l t e = and_then_in (close_in l t e) l eof_in
+abbrev pub finish_in : Lexer → List ℕ → List ℕ → Did
+finish_in l t e = and_then_in (close_in l t e) eof_in
 
 -- the items that are left
-abbrev pub scan_in : List Item → Lexer → List ℕ → List ℕ → Done
+abbrev pub scan_in : List Item → Lexer → List ℕ → List ℕ → Did
 scan_in [] l t e = finish_in l t e
-scan_in (x ∷ xs) l t e = and_then_in (step_in x l t e) l (scan_in xs)
+scan_in (x ∷ xs) l t e = and_then_in (step_in x l t e) (scan_in xs)
 
 -- the state at the start
 abbrev pub start : Lexer
@@ -154,8 +161,7 @@ pub record Does (d : Did) (r : Next) (t e : List ℕ) : Type 0 where
   pub tokens_are : t ≡ d.tokens
   pub errors_are : e ≡ d.errors
 
--- a function's answer and tables are those of the lexing
-pub record Ends (d : Done) (r : Scanned) (t e : List ℕ) : Type 0 where
-  pub answer_is : r ≡ d.answer
-  pub tokens_are : t ≡ d.tokens
-  pub errors_are : e ≡ d.errors
+-- what is answered at the end, or at a stop
+abbrev pub answer_of : Next → Scanned
+answer_of (Ok l) = record { outcome = outcome_number outcomes.Ended; tokens = l.tokens; errors = l.errors }
+answer_of (Err s) = record { outcome = outcome_number s.outcome; tokens = s.tokens; errors = s.errors }

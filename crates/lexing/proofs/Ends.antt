@@ -6,12 +6,11 @@ use Prim.Native.Nat.{ℕ, zero, suc}
 use native.Mathlib.Omega.{arith}
 use lib.Dec.{T, ltb, eqb}
 use lib.ListN.{length}
+use Rattle.std.specs.Prelude.{Option, Some, None, Ok, Err}
 use Rattle.rules.specs.Rules.{two, known, is_two}
 use Rattle.text.specs.Text.{is_text}
 use Rattle.numbers.specs.Number.{number_of}
-use Rattle.strings.specs.declared.Ended.{Ended}
-use Rattle.strings.specs.declared.Ended.TheVariants.{Closed, Broken}
-use Rattle.strings.specs.Strings.{read_of, begun}
+use Rattle.strings.specs.Strings.{Ended, read_of, begun}
 use Rattle.items.specs.declared.Sign.TheVariants.{Newline, Blank, Hash, Quote, Single, Pair, Illegal}
 use Rattle.items.specs.declared.Item.{Item}
 use Rattle.items.specs.declared.Item.TheVariants.{Space, Comment, Name, Text, Number, Mark, Wrong}
@@ -30,14 +29,11 @@ module _ (rule : ℕ) where
   Sound (Mark k n m) = Unit {0}
   Sound (Wrong e n m) = Unit {0}
 
-  lone_sound : (k : ℕ) → Sound (lone k)
-  lone_sound k = at (eqb k 0)
-    where
-      at : (b : Bool) → Sound (pick_item b (Wrong 1 1 0) (Mark k 1 0))
-      at true = tt
-      at false = tt
+  lone_sound : (k : Option ℕ) → Sound (lone k)
+  lone_sound None = tt
+  lone_sound (Some k) = tt
 
-  pair_sound : (k l : ℕ) (s : List ℕ) → Sound (pair_at k l s)
+  pair_sound : (k : Option ℕ) (l : ℕ) (s : List ℕ) → Sound (pair_at k l s)
   pair_sound k l [] = lone_sound k
   pair_sound k l (x ∷ s) = at (eqb x 61)
     where
@@ -46,8 +42,8 @@ module _ (rule : ℕ) where
       at false = lone_sound k
 
   text_sound : (x : Ended) → Sound (text_item x)
-  text_sound (Closed n m l) = tt
-  text_sound (Broken n m) = tt
+  text_sound (Ok c) = tt
+  text_sound (Err b) = tt
 
   -- a number that is cut, and a rule that stops at it
   number_sound : (b c : Bool) → not b && c ≡ true → b ≡ false

@@ -3,33 +3,33 @@ use mathlib.Core.Path.{◌≡◌, refl}
 use mathlib.Core.Bool.{false}
 use mathlib.Core.List.{[], ◌∷◌}
 use lib.ListN.{replicate}
-use Rattle.strings.specs.declared.Ended.TheVariants.{Closed, Broken}
+use Rattle.strings.specs.Strings as strings
 use Rattle.text.specs.Text.{is_text}
 use Rattle.strings.specs.Strings.{read_of, begun, decoded_from}
 use Rattle.decoding.specs.Decode.{refused, decode_of}
 
 -- `a\n"`: four bytes passed, two decoded
-closed : read_of (97 ∷ 92 ∷ 110 ∷ 34 ∷ []) begun ≡ Closed 4 0 2
+closed : read_of (97 ∷ 92 ∷ 110 ∷ 34 ∷ []) begun ≡ strings.closed 4 0 2
 closed = refl
 
 -- `\q"`: reading resumes after the q
-no_escape : read_of (92 ∷ 113 ∷ 34 ∷ []) begun ≡ Broken 2 0
+no_escape : read_of (92 ∷ 113 ∷ 34 ∷ []) begun ≡ strings.broken 2 0
 no_escape = refl
 
 -- a newline raises the line
-raised : read_of (10 ∷ 34 ∷ []) begun ≡ Closed 2 1 1
+raised : read_of (10 ∷ 34 ∷ []) begun ≡ strings.closed 2 1 1
 raised = refl
 
 -- a newline after a backslash does not
-not_raised : read_of (10 ∷ 92 ∷ 10 ∷ 34 ∷ []) begun ≡ Broken 3 1
+not_raised : read_of (10 ∷ 92 ∷ 10 ∷ 34 ∷ []) begun ≡ strings.broken 3 1
 not_raised = refl
 
 -- no closing quote
-open_end : read_of (replicate 500 97) begun ≡ Broken 500 0
+open_end : read_of (replicate 500 97) begun ≡ strings.broken 500 0
 open_end = refl
 
 -- a backslash at the very end
-cut_escape : read_of (97 ∷ 92 ∷ []) begun ≡ Broken 2 0
+cut_escape : read_of (97 ∷ 92 ∷ []) begun ≡ strings.broken 2 0
 cut_escape = refl
 
 -- every escape

@@ -1,6 +1,6 @@
 -- What an item says of its bytes: the kind of its token and the newlines among them, or which message they are. Assumes nothing.
 use mathlib.Core.Path.{◌≡◌, refl, sym, ap, subst, ◌∙◌}
-use mathlib.Core.Bool.{Bool, true, false, ◌&&◌, ◌||◌, cond}
+use mathlib.Core.Bool.{Bool, true, false, ◌&&◌, cond}
 use mathlib.Core.List.{List, [], ◌∷◌, ◌++◌, tail}
 use Prim.Native.Nat.{ℕ, suc, ◌+◌, ◌≤◌}
 use native.Mathlib.Omega.{arith}
@@ -9,19 +9,16 @@ use lib.Dec.{T, leb, eqb, leb→le, lit≤}
 use lib.Ieee.Fits.{and_l, and_r}
 use lib.ListN.{take, drop}
 use lib.Seq.{take-add}
+use Rattle.std.specs.Prelude.{Option, Some, None, Ok, Err}
+use Rattle.std.specs.declared.ops.ControlFlow.TheVariants.{Continue, Break}
 use Rattle.token.specs.Kind as kinds
 use Rattle.token.proofs.Range.{kind_range}
 use Rattle.spans.specs.Span.{is_alpha, is_digit, run, count}
 use Rattle.rules.specs.Rules.{is_named}
 use Rattle.rules.proofs.Laws.{newline_ends}
 use Rattle.numbers.specs.Number.{point_size, pointed, number_size}
-use Rattle.records.specs.Messages.{lone_bang}
 use Rattle.strings.specs.declared.Reading.{Reading}
-use Rattle.strings.specs.declared.Ended.{Ended}
-use Rattle.strings.specs.declared.Ended.TheVariants.{Closed, Broken}
-use Rattle.strings.specs.declared.Step.{Step}
-use Rattle.strings.specs.declared.Step.TheVariants.{On, Stop}
-use Rattle.strings.specs.Strings.{is_escape, pick_step, step_of, and_then, read_of, begun}
+use Rattle.strings.specs.Strings.{Ended, Step, closed, broken, is_escape, pick_step, step_of, and_then, read_of, begun}
 use Rattle.items.specs.declared.Sign.{Sign}
 use Rattle.items.specs.declared.Sign.TheVariants.{Newline, Blank, Hash, Quote, Single, Pair, Illegal}
 use Rattle.items.specs.declared.Item.{Item}
@@ -69,13 +66,13 @@ number_quiet s =
 
 -- ---- a string that closes: every newline in it raises the line, since a backslash takes none
 abbrev Counts : List ℕ → Reading → Ended → Type 0
-Counts s t (Closed n m l) = (k : ℕ) × (n ≡ t.at + k) × (m ≡ t.lines + newlines (take k s))
-Counts s t (Broken n m) = Unit
+Counts s t (Ok c) = (k : ℕ) × (c.size ≡ t.at + k) × (c.lines ≡ t.lines + newlines (take k s))
+Counts s t (Err b) = Unit
 
 -- one byte before
 counts_on : (b : ℕ) (s : List ℕ) (t u : Reading) (x : Ended) → u.at ≡ t.at + 1 → u.lines ≡ t.lines + cond (eqb b 10) 1 0 → Counts s u x → Counts (b ∷ s) t x
-counts_on b s t u (Closed n m l) a c h = (suc h.0, omega arith, omega arith)
-counts_on b s t u (Broken n m) a c h = tt
+counts_on b s t u (Ok x) a c h = (suc h.0, omega arith, omega arith)
+counts_on b s t u (Err x) a c h = tt
 
 module _ (b : ℕ) (s : List ℕ) (t : Reading) (ih : (u : Reading) → Counts s u (read_of s u)) where
   abbrev After : Step → Type 0
@@ -85,19 +82,19 @@ module _ (b : ℕ) (s : List ℕ) (t : Reading) (ih : (u : Reading) → Counts s
   adds : (c : Bool) → eqb b 10 ≡ c → ◌≡◌ {A = ℕ} (cond (eqb b 10) 1 0) (cond c 1 0)
   adds c e = ap (λ (d : Bool). cond d 1 0) e
 
-  on : (u : Reading) → u.at ≡ t.at + 1 → u.lines ≡ t.lines + cond (eqb b 10) 1 0 → After (On u)
+  on : (u : Reading) → u.at ≡ t.at + 1 → u.lines ≡ t.lines + cond (eqb b 10) 1 0 → After (Continue u)
   on u a c = counts_on b s t u (read_of s u) a c (ih u)
 
   after_slash : (p : Bool) → is_escape b ≡ p → (n l : ℕ)
-      → After (pick_step p (On (record { escaped = false; at = t.at + 1; length = l; lines = t.lines })) (Stop (Broken n t.lines)))
+      → After (pick_step p (Continue (record { escaped = false; at = t.at + 1; length = l; lines = t.lines })) (Break (broken n t.lines)))
   after_slash true h n l = let z = adds false (no_newline is_escape refl b h) in on _ refl (omega arith)
   after_slash false h n l = tt
 
   plainly : (p q r : Bool) → eqb b 34 ≡ p → eqb b 92 ≡ q → eqb b 10 ≡ r
-      → After (pick_step p (Stop (Closed (t.at + 1) t.lines t.length))
-      (pick_step q (On (record { escaped = true; at = t.at + 1; length = t.length; lines = t.lines }))
-      (pick_step r (On (record { escaped = false; at = t.at + 1; length = t.length + 1; lines = t.lines + 1 }))
-      (On (record { escaped = false; at = t.at + 1; length = t.length + 1; lines = t.lines })))))
+      → After (pick_step p (Break (closed (t.at + 1) t.lines t.length))
+      (pick_step q (Continue (record { escaped = true; at = t.at + 1; length = t.length; lines = t.lines }))
+      (pick_step r (Continue (record { escaped = false; at = t.at + 1; length = t.length + 1; lines = t.lines + 1 }))
+      (Continue (record { escaped = false; at = t.at + 1; length = t.length + 1; lines = t.lines })))))
   plainly true q r h i j = let z = adds false (no_newline (λ x. eqb x 34) refl b h) in (1, refl, omega arith)
   plainly false true r h i j = let z = adds false (no_newline (λ x. eqb x 92) refl b i) in on _ refl (omega arith)
   plainly false false true h i j = let z = adds true j in on _ refl (omega arith)
@@ -140,14 +137,19 @@ is_mark k = leb 2 k && leb k 49
 mark_kind : (k : ℕ) → T (is_mark k) → (2 ≤ k) × (k ≤ 49)
 mark_kind k t = (leb→le 2 k (and_l (leb 2 k) (leb k 49) t), leb→le k 49 (and_r (leb 2 k) (leb k 49) t))
 
--- a sign that is no newline, with kinds of marks; one that stands alone may be 0, which is message 1
+-- of a mark that may stand alone; one that has no kind then is message 1
+abbrev fit_alone : Option ℕ → Bool
+fit_alone None = true
+fit_alone (Some k) = is_mark k
+
+-- a sign that is no newline, with kinds of marks
 abbrev fit : Sign → Bool
 fit Newline = false
 fit Blank = true
 fit Hash = true
 fit Quote = true
 fit (Single k) = is_mark k
-fit (Pair k l) = (eqb k kinds.eof_kind || is_mark k) && is_mark l
+fit (Pair k l) = fit_alone k && is_mark l
 fit Illegal = true
 
 abbrev all_fit : List Row → Bool
@@ -167,23 +169,20 @@ module _ (b : ℕ) (s : List ℕ) (e : eqb b 10 ≡ false) where
   mark_tells k t = no_line k 1 0 (b ∷ s) (mark_kind k t) (quiet b [] e)
 
   -- alone, a mark that has a kind
-  lone_tells : (k : ℕ) → T (eqb k kinds.eof_kind || is_mark k) → Tells (lone k) (b ∷ s)
-  lone_tells k t = at (eqb k kinds.eof_kind) t
-    where
-      at : (c : Bool) → T (c || is_mark k) → Tells (pick_item c (Wrong lone_bang 1 0) (Mark k 1 0)) (b ∷ s)
-      at true u = (lit≤ tt, lit≤ tt)
-      at false u = mark_tells k u
+  lone_tells : (k : Option ℕ) → T (fit_alone k) → Tells (lone k) (b ∷ s)
+  lone_tells None t = (lit≤ tt, lit≤ tt)
+  lone_tells (Some k) t = mark_tells k t
 
   text_tells : (x : Ended) → Counts s begun x → Tells (text_item x) (b ∷ s)
-  text_tells (Closed n m l) h =
-      let k : n ≡ h.0 = (let a = h.1 in omega arith) in
-      let z : newlines (take n s) ≡ newlines (take h.0 s) = ap (λ (j : ℕ). newlines (take j s)) k in
+  text_tells (Ok x) h =
+      let k : x.size ≡ h.0 = (let a = h.1 in omega arith) in
+      let z : newlines (take x.size s) ≡ newlines (take h.0 s) = ap (λ (j : ℕ). newlines (take j s)) k in
       let a = h.2 in
-      let c = quiet b (take n s) e in
-      no_line kinds.string_kind (suc n) m (b ∷ s) (lit≤ tt, lit≤ tt) (omega arith)
-  text_tells (Broken n m) h = (lit≤ tt, lit≤ tt)
+      let c = quiet b (take x.size s) e in
+      no_line kinds.string_kind (suc x.size) x.lines (b ∷ s) (lit≤ tt, lit≤ tt) (omega arith)
+  text_tells (Err x) h = (lit≤ tt, lit≤ tt)
 
-pair_tells : (k l b : ℕ) (s : List ℕ) → eqb b 10 ≡ false → T (eqb k kinds.eof_kind || is_mark k) → T (is_mark l) → Tells (pair_at k l s) (b ∷ s)
+pair_tells : (k : Option ℕ) (l b : ℕ) (s : List ℕ) → eqb b 10 ≡ false → T (fit_alone k) → T (is_mark l) → Tells (pair_at k l s) (b ∷ s)
 pair_tells k l b [] e t u = lone_tells b [] e k t
 pair_tells k l b (x ∷ s) e t u = at (eqb x 61) refl
   where
@@ -197,7 +196,7 @@ sign_tells rule Blank b s e t = tt
 sign_tells rule Hash b s e t = tt
 sign_tells rule Quote b s e t = text_tells b s e (read_of s begun) (counts s begun)
 sign_tells rule (Single k) b s e t = mark_tells b s e k t
-sign_tells rule (Pair k l) b s e t = pair_tells k l b s e (and_l (eqb k kinds.eof_kind || is_mark k) (is_mark l) t) (and_r (eqb k kinds.eof_kind || is_mark k) (is_mark l) t)
+sign_tells rule (Pair k l) b s e t = pair_tells k l b s e (and_l (fit_alone k) (is_mark l) t) (and_r (fit_alone k) (is_mark l) t)
 sign_tells rule Illegal b s e t = (lit≤ tt, lit≤ tt)
 
 -- the first sign of the table is the newline

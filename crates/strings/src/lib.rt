@@ -2,26 +2,27 @@
 #![tactic(auto)]
 
 ghost use Rattle.std.specs.Prelude.{◌≡◌, ◌<◌, ◌^◌, drop};
-ghost use Rattle.strings.specs.Strings.{unescaped, Grown, step_of, read_of, begun};
+ghost use Rattle.strings.specs.Strings.{escape_of, Grown, step_of, read_of, begun};
 
-// What a string comes to. The size counts the bytes passed from the byte after the opening quote, the lines count the newlines among them that are not escaped.
+use std::ops::ControlFlow;
+
+// A string whose closing quote was found. The size counts the bytes passed from the byte after the opening quote, the closing quote too, the lines count the newlines among them that are not escaped, and the length is that of the decoded bytes.
 #[derive(Clone, Copy)]
-pub enum Ended {
-    // The closing quote was found, and is in the size; the length is that of the decoded bytes.
-    Closed {
-        size: usize,
-        lines: usize,
-        length: usize,
-    },
-    // The end came, or a backslash before a byte that is no escape: reading resumes after the bytes passed.
-    Broken {
-        size: usize,
-        lines: usize,
-    },
+pub struct Closed {
+    pub size: usize,
+    pub lines: usize,
+    pub length: usize,
+}
+
+// The end came, or a backslash before a byte that is no escape: reading resumes after the bytes passed, which are counted in the same way.
+#[derive(Clone, Copy)]
+pub struct Broken {
+    pub size: usize,
+    pub lines: usize,
 }
 
 // The state of the reading: whether a backslash stands before, the bytes passed, the decoded length, the newlines.
-#[derive(Clone, Copy)]
+#[derive(Clone, Copy, Default)]
 pub struct Reading {
     pub escaped: bool,
     pub at: usize,
@@ -29,93 +30,76 @@ pub struct Reading {
     pub lines: usize,
 }
 
-// What a byte makes of the reading: it goes on, or it stops.
-#[derive(Clone, Copy)]
-pub enum Step {
-    On(Reading),
-    Stop(Ended),
-}
-
-// What the byte after a backslash stands for. No escape stands for 0, so 0 says that c is none.
-pub fn unescape_sequence(c: u8) -> u8
-    ensures { result ≡ unescaped c }
+// What the byte after a backslash stands for, if it is an escape.
+pub fn unescape_sequence(c: u8) -> Option<u8>
+    ensures { result ≡ escape_of c }
 {
     match c {
-        b'n' => b'\n',
-        b'r' => b'\r',
-        b't' => b'\t',
-        b'\\' => b'\\',
-        b'"' => b'"',
-        _ => 0,
+        b'n' => Some(b'\n'),
+        b'r' => Some(b'\r'),
+        b't' => Some(b'\t'),
+        b'\\' => Some(b'\\'),
+        b'"' => Some(b'"'),
+        _ => None,
     }
 }
 
-// The reading goes on from this state.
-fn goes_on(escaped: bool, at: usize, length: usize, lines: usize) -> Step
-    ensures { result ≡ Step.On (record { escaped = escaped; at = at; length = length; lines = lines }) }
-{
-    Step::On(Reading {
-        escaped,
-        at,
-        length,
-        lines,
-    })
-}
-
-// One byte of a string. Only a newline that no backslash precedes raises the line. The counts are at most the bytes passed, so no sum wraps.
-fn pass(t: Reading, b: u8) -> Step
+// One byte of a string: the reading goes on, or the string has ended. Only a newline that no backslash precedes raises the line. The counts are at most the bytes passed, so no sum wraps.
+fn pass(t: Reading, b: u8) -> ControlFlow<Result<Closed, Broken>, Reading>
     requires { (t.at < 2 ^ 63) × (t.length < 2 ^ 63) × (t.lines < 2 ^ 63) }
     ensures { (result ≡ step_of t.escaped t.at t.length t.lines b) × Grown t result }
 {
-    let at = t.at + 1;
-    let length = t.length;
+    let size = t.at + 1;
     let lines = t.lines;
-    let escaped = t.escaped;
-    if escaped {
-        if unescape_sequence(b) == 0 {
-            return Step::Stop(Ended::Broken { size: at, lines });
-        }
-        return goes_on(false, at, length + 1, lines);
+    let next = Reading {
+        escaped: false,
+        at: size,
+        ..t
+    };
+    if t.escaped {
+        return match unescape_sequence(b) {
+            Some(_) => ControlFlow::Continue(Reading {
+                length: t.length + 1,
+                ..next
+            }),
+            None => ControlFlow::Break(Err(Broken { size, lines })),
+        };
     }
-    if b == b'"' {
-        return Step::Stop(Ended::Closed {
-            size: at,
+    match b {
+        b'"' => ControlFlow::Break(Ok(Closed {
+            size,
             lines,
-            length,
-        });
+            length: t.length,
+        })),
+        b'\\' => ControlFlow::Continue(Reading {
+            escaped: true,
+            ..next
+        }),
+        b'\n' => ControlFlow::Continue(Reading {
+            length: t.length + 1,
+            lines: lines + 1,
+            ..next
+        }),
+        _ => ControlFlow::Continue(Reading {
+            length: t.length + 1,
+            ..next
+        }),
     }
-    if b == b'\\' {
-        return goes_on(true, at, length, lines);
-    }
-    if b == b'\n' {
-        return goes_on(false, at, length + 1, lines + 1);
-    }
-    goes_on(false, at, length + 1, lines)
 }
 
 // Rule 5, read from the byte after the opening quote. Past the end there is nothing to read, and the string is broken.
-pub fn string(s: &[u8], from: usize) -> Ended
+pub fn string(s: &[u8], from: usize) -> Result<Closed, Broken>
     ensures { result ≡ read_of (drop from s.now) begun }
 {
-    let mut t = Reading {
-        escaped: false,
-        at: 0,
-        length: 0,
-        lines: 0,
-    };
-    let mut at = from;
-    while at < s.len() {
-        match pass(t, s[at]) {
-            Step::On(next) => {
-                t = next;
-                at = at + 1;
-            }
-            Step::Stop(r) => {
-                return r;
-            }
+    let mut t = Reading::default();
+    for b in s.get(from..).unwrap_or(&[]) {
+        match pass(t, *b) {
+            ControlFlow::Continue(next) => t = next,
+            ControlFlow::Break(ended) => return ended,
         }
     }
-    let size = t.at;
-    let lines = t.lines;
-    Ended::Broken { size, lines }
+    Err(Broken {
+        size: t.at,
+        lines: t.lines,
+    })
 }
