@@ -1,67 +1,40 @@
 // The vectors of the crate records: each works on a table of its own, and most print it whole.
-use crate::fields::Field;
-use crate::{fields, print};
+use crate::fields::Fields;
+use crate::print;
 use records::{InterpreterError, Node, TokenData};
 
-// Whether a vector of this letter has a table's size in front.
-pub(crate) fn has(c: u8) -> bool {
-    match c {
-        b't' | b'o' | b'p' | b'l' | b'z' | b'r' => true,
-        _ => false,
-    }
-}
-
 // The number of words stands in front; a table has at most 64.
-pub(crate) fn vector(s: &[u8]) {
-    let f = fields::number(s, fields::first());
-    let mut t = [7u32; 64];
-    part(s, f, &mut t);
-}
-
-fn part(s: &[u8], f: Field, t: &mut [u32]) {
-    let n = f.value as usize;
-    if n <= t.len() {
-        on_table(s, f, &mut t[0..n]);
+pub(crate) fn vector(letter: u8, mut fields: Fields) -> Option<()> {
+    let mut words = [7u32; 64];
+    let t = words.get_mut(..fields.number()? as usize)?;
+    let a = low(fields.number()?);
+    if letter == b'l' {
+        let m = low(fields.number()?);
+        fields.end()?;
+        link(t, a, m);
     } else {
-        print::unknown();
+        fields.end()?;
+        at_record(letter, t, a);
     }
-}
-
-fn on_table(s: &[u8], f: Field, t: &mut [u32]) {
-    let c = fields::letter(s);
-    let a = fields::number(s, f);
-    if c == b'l' {
-        link(s, a, t);
-        return;
-    }
-    if fields::whole(s, a) {
-        at_record(c, t, low(a.value));
-    } else {
-        print::unknown();
-    }
+    Some(())
 }
 
 // The low 32 bits.
-fn low(n: u64) -> u32 {
+pub(crate) fn low(n: u64) -> u32 {
     (n % 4294967296) as u32
 }
 
 // l words r m: m made what follows the node that r names.
-fn link(s: &[u8], r: Field, t: &mut [u32]) {
-    let m = fields::number(s, r);
-    if fields::whole(s, m) {
-        records::link(t, low(r.value), low(m.value));
-        print::letter(b'l');
-        print::words(t);
-        print::end();
-    } else {
-        print::unknown();
-    }
+fn link(t: &mut [u32], r: u32, m: u32) {
+    records::link(t, r, m);
+    print::letter(b'l');
+    print::words(t);
+    print::end();
 }
 
 // The vectors whose one number beside the table's size names a record.
-fn at_record(c: u8, t: &mut [u32], n: u32) {
-    match c {
+fn at_record(letter: u8, t: &mut [u32], n: u32) {
+    match letter {
         b't' => push_token(t, n),
         b'o' => push_node(t, n),
         b'p' => push_error(t, n),
@@ -71,8 +44,8 @@ fn at_record(c: u8, t: &mut [u32], n: u32) {
 }
 
 // The answer to a push: whether there was room, and the table.
-fn pushed(c: u8, ok: bool, t: &[u32]) {
-    print::letter(c);
+fn pushed(letter: u8, ok: bool, t: &[u32]) {
+    print::letter(letter);
     print::flag(ok);
     print::words(t);
     print::end();
@@ -129,7 +102,9 @@ fn zero(t: &mut [u32], n: u32) {
 
 // r words i: the words of token i that have a reader, then the table's rooms, on a table of 0, 1, 2, ..
 fn reads(t: &mut [u32], i: u32) {
-    count_up(t);
+    for (k, word) in t.iter_mut().enumerate() {
+        *word = low(k as u64);
+    }
     print::letter(b'r');
     token(t, i);
     rooms(t);
@@ -147,19 +122,4 @@ fn rooms(t: &[u32]) {
     print::word(records::token_room(t));
     print::word(records::error_room(t));
     print::word(records::node_room(t));
-}
-
-// Each word its own index.
-fn count_up(t: &mut [u32]) {
-    let mut v: u32 = 0;
-    let mut i = 0;
-    while i < t.len() {
-        t[i] = v;
-        v = next(v);
-        i += 1;
-    }
-}
-
-fn next(v: u32) -> u32 {
-    if v < 4294967295 { v + 1 } else { 0 }
 }
