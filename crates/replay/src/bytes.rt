@@ -1,6 +1,4 @@
 // The vectors of the crates that read bytes. A byte string stands in front, save for v and u, which have numbers only.
-ghost use Rattle.std.specs.Prelude.{◌≡◌, length};
-
 use crate::fields::Fields;
 use crate::print;
 use literal::{Literal, Span};
@@ -150,7 +148,7 @@ fn into(b: &[u8], start: usize, out: &mut [u8]) {
 pub(crate) fn too_long(mut fields: Fields) -> Option<()> {
     let n = fields.number()?;
     fields.end()?;
-    let mut source = letters();
+    let mut source = [b'a'; 65536];
     source[0] = b'"';
     let end = n.checked_add(65535)? as usize;
     let mut out = [BEFORE; 4];
@@ -160,10 +158,4 @@ pub(crate) fn too_long(mut fields: Fields) -> Option<()> {
     print::size(d.length);
     print::end();
     Some(())
-}
-
-fn letters() -> [u8; 65536]
-    ensures { 65536 ≡ length result }
-{
-    [b'a'; 65536]
 }

@@ -8,21 +8,13 @@ mod lexing;
 mod print;
 mod tables;
 
-ghost use Rattle.std.specs.Prelude.{◌≡◌, length};
-
 use fields::Fields;
 
 fn main() {
-    let mut input = buffer();
+    // The vectors nearly fill the 65,536 bytes of the largest buffer of `io`.
+    let mut input = [0u8; 262144];
     let n = io::read_full(0, &mut input);
     lines(&input[..n]);
-}
-
-// Room for the whole of standard input: the vectors nearly fill the 65,536 bytes of the largest buffer of `io`.
-fn buffer() -> [u8; 262144]
-    ensures { 262144 ≡ length result }
-{
-    [0; 262144]
 }
 
 // Answers every line. The last one may lack its newline.
