@@ -58,12 +58,12 @@ push_out t B u at b l h =
 pub adds_nothing : (p : Page) → Adds [] p p
 adds_nothing p = record { same = refl; holds = λ t B h. subst (λ (x : List ℕ). Holds x B p.out.now p.at) (sym (append-nil t)) h }
 
-pub adds_then : (a b : List ℕ) (p q r : Page) → Adds a p q → Adds b q r → Adds (a ++ b) p r
-adds_then a b p q r f g = record { same = g.same ∙ f.same; holds = λ t B h. subst (λ (x : List ℕ). Holds x B r.out.now r.at) (append_assoc t a b) (g.holds (t ++ a) B (f.holds t B h)) }
+pub adds_then : {a b : List ℕ} {p q r : Page} → Adds a p q → Adds b q r → Adds (a ++ b) p r
+adds_then {a} {b} {p} {q} {r} f g = record { same = g.same ∙ f.same; holds = λ t B h. subst (λ (x : List ℕ). Holds x B r.out.now r.at) (append_assoc t a b) (g.holds (t ++ a) B (f.holds t B h)) }
 
 -- the same text, otherwise put together
-pub adds_same : (a b : List ℕ) (p q : Page) → a ≡ b → Adds a p q → Adds b p q
-adds_same a b p q e f = subst (λ (x : List ℕ). Adds x p q) e f
+pub adds_same : {a b : List ℕ} {p q : Page} → a ≡ b → Adds a p q → Adds b p q
+adds_same {a} {b} {p} {q} e f = subst (λ (x : List ℕ). Adds x p q) e f
 
 -- from the front of a buffer on
 pub adds_first : (a u : List ℕ) (p q : Page) → Adds a p q → p.out.now ≡ u → p.at ≡ 0 → (v : List ℕ) → v ≡ q.out.now → Holds a u v q.at
