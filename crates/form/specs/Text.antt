@@ -75,7 +75,7 @@ pub record Holds (text : List ℕ) (before : List ℕ) (buffer : List ℕ) (at :
   pub count : at ≡ min (length text) (length before)
   pub bytes : buffer ≡ take at text ++ drop at before
 
--- a page takes a text more, as far as it has room: what it held is what it holds before that text, in the same buffer
+-- from page p to page q: in the same buffer a text more stands behind what it held, as far as there is room
 pub record Adds (more : List ℕ) (p q : Page) : Type 0 where
   pub same : q.out.ghost_name ≡ p.out.ghost_name
   pub holds : (text before : List ℕ) → Holds text before p.out.now p.at → Holds (text ++ more) before q.out.now q.at
