@@ -2,6 +2,8 @@
 use Rattle.std.specs.Prelude.{ℕ, Bool, cond, ◌&&◌, eqb, ltb}
 use Rattle.records.specs.Outcomes.{ended, not_parsed}
 use Rattle.lexer.specs.Lex.{Result}
+use Rattle.entry.specs.declared.Way.{Way}
+use Rattle.entry.specs.declared.Way.TheVariants.{Stop, GoOn}
 
 -- the new way; any other number is the old one
 abbrev pub stop : ℕ
@@ -10,6 +12,10 @@ stop = 0
 -- the old way, by the number that our own callers give
 abbrev pub go_on : ℕ
 go_on = 1
+
+-- the way that a number means
+abbrev pub way_of : ℕ → Way
+way_of n = cond (eqb n stop) Stop GoOn
 
 -- lexing came to that outcome, with so many errors: it reached its end and recorded one
 abbrev pub ended_wrong : ℕ → ℕ → Bool

@@ -2,7 +2,7 @@
 #![tactic(auto)]
 
 ghost use Rattle.std.specs.Prelude.{◌≡◌};
-ghost use Rattle.entry.specs.Ways.{outcome_on};
+ghost use Rattle.entry.specs.Ways.{way_of, outcome_on};
 ghost use Rattle.entry.specs.Entry.{entered, Indexes, Enters};
 
 use lexer::Scanned;
@@ -10,7 +10,7 @@ use records::Outcome;
 
 // What a reading answers: the outcome, how many tokens, errors and nodes are kept, the first statement, 0 where none is, and how often `check` was called.
 #[repr(C)]
-#[derive(Clone, Copy)]
+#[derive(Clone, Copy, Default)]
 pub struct Answer {
     pub outcome: u32,
     pub tokens: u32,
@@ -20,41 +20,46 @@ pub struct Answer {
     pub looks: u32,
 }
 
-// The two ways of a reading, named here once: the numbers of specs/Ways.antt.
-#[derive(Clone, Copy)]
-pub struct Way {
-    pub number: u32,
+// The two ways of a reading.
+#[derive(Clone, Copy, PartialEq, Eq, Debug)]
+pub enum Way {
+    // The new way: nothing is parsed where lexing recorded an error.
+    Stop = 0,
+    // The old way: what was lexed to its end is parsed.
+    GoOn = 1,
 }
 
-impl Way {
-    // The new way: nothing is parsed where lexing recorded an error.
-    pub const STOP: u32 = 0;
+// A caller gives a number, and every number but 0 means the old way.
+impl From<u32> for Way {
+    ghost from_gives = { λ n w. w ≡ way_of n };
 
-    // The old way: what was lexed to its end is parsed. Every number but 0 means this way.
-    pub const GO_ON: u32 = 1;
+    fn from(number: u32) -> Way {
+        match number {
+            0 => Way::Stop,
+            _ => Way::GoOn,
+        }
+    }
 }
 
 // What becomes of lexing's outcome on a way.
 fn outcome_on(way: u32, outcome: u32, errors: u32) -> u32
     ensures { result ≡ outcome_on way outcome errors }
 {
-    if (way == Way::STOP) & ((outcome == Outcome::Ended as u32) & (errors > 0)) {
-        return Outcome::NotParsed as u32;
+    match Way::from(way) {
+        Way::Stop if (outcome == Outcome::Ended as u32) & (errors > 0) => Outcome::NotParsed as u32,
+        _ => outcome,
     }
-    outcome
 }
 
 // What the index asks of that outcome: where n tokens are to be parsed it is written, or has too little room for them.
 fn index_on(tokens: &[u32], index: &mut [u32], outcome: u32, n: u32) -> u32
     ensures { Indexes tokens.now outcome n index.old result index.new }
 {
-    if outcome != Outcome::Ended as u32 {
-        return outcome;
+    if (outcome == Outcome::Ended as u32) && !lines::index_lines(tokens, index, n) {
+        Outcome::NoBufferRoom as u32
+    } else {
+        outcome
     }
-    if lines::index_lines(tokens, index, n) {
-        return Outcome::Ended as u32;
-    }
-    Outcome::NoBufferRoom as u32
 }
 
 // The step from lexing to parsing: `read` begins with it, and the reading of a statement at a time. With outcome 0 what was lexed is to be parsed, and the index
@@ -81,9 +86,5 @@ pub fn enter(
     {
         records::zero_rest(nodes, 0);
     }
-    Scanned {
-        outcome,
-        tokens: d.tokens,
-        errors: d.errors,
-    }
+    Scanned { outcome, ..d }
 }

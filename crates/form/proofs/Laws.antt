@@ -7,7 +7,8 @@ use native.Mathlib.Omega.{arith}
 use lib.ListN.{length, get_or, take, drop, set, length-append, length-drop}
 use lib.Seq.{take_all, take-suc, take_at, take-append-le, drop-append-add, drop-drop, length-take-le, set_split}
 use Rattle.io.specs.Digits.{last_digits, IsDigitCount}
-use Rattle.form.specs.Text.{Holds, field, fields, line_of, lines_of}
+use Rattle.form.specs.declared.Page.{Page}
+use Rattle.form.specs.Text.{Holds, Adds, field, fields, line_of, lines_of}
 use Rattle.form.proofs.Decimal.{decimal_is}
 
 -- nothing is held in front
@@ -53,21 +54,30 @@ push_out t B u at b l h =
     let c = h.count in
     record { count = omega arith; bytes = h.bytes ∙ ap (λ (x : List ℕ). x ++ drop at B) (sym (take-append-le at t (b ∷ []) (omega arith))) }
 
--- ---- the bytes of a text, one after the other
-pub text_start : (B t s u : List ℕ) (at : ℕ) → Holds t B u at → Holds (t ++ take 0 s) B u at
-text_start B t s u at h = subst (λ (x : List ℕ). Holds x B u at) (sym (append-nil t)) h
+-- ---- texts one after the other
+pub adds_nothing : (p : Page) → Adds [] p p
+adds_nothing p = record { same = refl; holds = λ t B h. subst (λ (x : List ℕ). Holds x B p.out.now p.at) (sym (append-nil t)) h }
 
-pub text_more : (B t s u : List ℕ) (at i : ℕ) → i < length s → Holds ((t ++ take i s) ++ (get_or s i 0 ∷ [])) B u at → Holds (t ++ take (i + 1) s) B u at
-text_more B t s u at i l h =
-    subst (λ (x : List ℕ). Holds x B u at)
-    (append_assoc t (take i s) (get_or s i 0 ∷ []) ∙ ap (λ (x : List ℕ). t ++ x) (sym (take-suc s i 0 l) ∙ ap (λ (k : ℕ). take k s) (sym (add-one i)))) h
+pub adds_then : {a b : List ℕ} {p q r : Page} → Adds a p q → Adds b q r → Adds (a ++ b) p r
+adds_then {a} {b} {p} {q} {r} f g = record { same = g.same ∙ f.same; holds = λ t B h. subst (λ (x : List ℕ). Holds x B r.out.now r.at) (append_assoc t a b) (g.holds (t ++ a) B (f.holds t B h)) }
 
-pub text_all : (B t s u : List ℕ) (at i : ℕ) → length s ≤ i → Holds (t ++ take i s) B u at → Holds (t ++ s) B u at
-text_all B t s u at i l h = subst (λ (x : List ℕ). Holds (t ++ x) B u at) (take_all i s l) h
+-- the same text, otherwise put together
+pub adds_same : {a b : List ℕ} {p q : Page} → a ≡ b → Adds a p q → Adds b p q
+adds_same {a} {b} {p} {q} e f = subst (λ (x : List ℕ). Adds x p q) e f
+
+-- from the front of a buffer on
+pub adds_first : (a u : List ℕ) (p q : Page) → Adds a p q → p.out.now ≡ u → p.at ≡ 0 → (v : List ℕ) → v ≡ q.out.now → Holds a u v q.at
+adds_first a u p q f e z v g =
+    subst (λ (x : List ℕ). Holds a u x q.at) (sym g)
+    (f.holds [] u (subst (λ (x : List ℕ). Holds [] u x p.at) (sym e) (subst (λ (k : ℕ). Holds [] u u k) (sym z) (holds_nothing u))))
+
+-- ---- a byte more of a text
+pub text_more : (s : List ℕ) (i : ℕ) → i < length s → take i s ++ (get_or s i 0 ∷ []) ≡ take (i + 1) s
+text_more s i l = sym (take-suc s i 0 l) ∙ ap (λ (k : ℕ). take k s) (sym (add-one i))
 
 -- ---- a number
-pub number_is : (B t ds u : List ℕ) (at k n : ℕ) → ds ≡ last_digits 10 k n → IsDigitCount 10 1 n k → n ≤ 4294967295 → Holds ((t ++ (32 ∷ [])) ++ ds) B u at → Holds (t ++ field n) B u at
-number_is B t ds u at k n e f l h = subst (λ (x : List ℕ). Holds x B u at) (append_assoc t (32 ∷ []) ds ∙ ap (λ (x : List ℕ). t ++ (32 ∷ x)) (e ∙ decimal_is k n l f)) h
+pub number_is : (ds : List ℕ) (k m n : ℕ) → m ≡ n → ds ≡ last_digits 10 k m → IsDigitCount 10 1 m k → n ≤ 4294967295 → (32 ∷ []) ++ ds ≡ field n
+number_is ds k m n z e f l = ap (λ (x : List ℕ). 32 ∷ x) (e ∙ decimal_is k m (omega (arith, z)) f) ∙ ap field z
 
 -- ---- a line's words, one after the other
 fields_append : (row : List ℕ) (from : ℕ) (ks ls : List ℕ) → fields row from (ks ++ ls) ≡ fields row from ks ++ fields row from ls
@@ -76,44 +86,28 @@ fields_append row from [] ls = refl
 fields_append row from (k ∷ ks) ls =
     ap (λ (x : List ℕ). field (get_or row (from + k) 0) ++ x) (fields_append row from ks ls) ∙ sym (append_assoc (field (get_or row (from + k) 0)) (fields row from ks) (fields row from ls))
 
+pub fields_none : (row : List ℕ) (from : ℕ) → [] ≡ fields row from []
+unfolding fields
+fields_none row from = refl
+
 -- one word more
-fields_suc : (row : List ℕ) (from : ℕ) (ks : List ℕ) (i : ℕ) → i < length ks
-    → fields row from (take i ks) ++ field (get_or row (from + get_or ks i 0) 0) ≡ fields row from (take (i + 1) ks)
+pub fields_more : (row : List ℕ) (from : ℕ) (ks : List ℕ) (i n : ℕ) → i < length ks → n ≡ get_or row (from + get_or ks i 0) 0
+    → fields row from (take i ks) ++ field n ≡ fields row from (take (i + 1) ks)
 unfolding fields
-fields_suc row from ks i l =
-    ap (λ (x : List ℕ). fields row from (take i ks) ++ x) (sym (append-nil (field (get_or row (from + get_or ks i 0) 0))))
+fields_more row from ks i n l e =
+    ap (λ (m : ℕ). fields row from (take i ks) ++ field m) e
+    ∙ ap (λ (x : List ℕ). fields row from (take i ks) ++ x) (sym (append-nil (field (get_or row (from + get_or ks i 0) 0))))
     ∙ sym (fields_append row from (take i ks) (get_or ks i 0 ∷ []))
-    ∙ ap (fields row from) (sym (take-suc ks i 0 l) ∙ ap (λ (j : ℕ). take j ks) (sym (add-one i)))
+    ∙ ap (fields row from) (text_more ks i l)
 
-pub fields_start : (B t row u : List ℕ) (from : ℕ) (ks : List ℕ) (at : ℕ) → Holds t B u at → Holds (t ++ fields row from (take 0 ks)) B u at
-unfolding fields
-fields_start B t row u from ks at h = subst (λ (x : List ℕ). Holds x B u at) (sym (append-nil t)) h
-
-pub fields_more : (B t row u : List ℕ) (from : ℕ) (ks : List ℕ) (at i n : ℕ) → i < length ks → n ≡ get_or row (from + get_or ks i 0) 0
-    → Holds ((t ++ fields row from (take i ks)) ++ field n) B u at → Holds (t ++ fields row from (take (i + 1) ks)) B u at
-fields_more B t row u from ks at i n l e h =
-    subst (λ (x : List ℕ). Holds x B u at)
-    (append_assoc t (fields row from (take i ks)) (field n) ∙ ap (λ (m : ℕ). t ++ (fields row from (take i ks) ++ field m)) e
-    ∙ ap (λ (x : List ℕ). t ++ x) (fields_suc row from ks i l)) h
-
-pub line_is : (B t row u : List ℕ) (letter from : ℕ) (ks : List ℕ) (at i : ℕ) → length ks ≤ i
-    → Holds (((t ++ (letter ∷ [])) ++ fields row from (take i ks)) ++ (10 ∷ [])) B u at → Holds (t ++ line_of letter row from ks) B u at
-line_is B t row u letter from ks at i l h =
-    subst (λ (x : List ℕ). Holds x B u at)
-    (append_assoc (t ++ (letter ∷ [])) (fields row from (take i ks)) (10 ∷ []) ∙ append_assoc t (letter ∷ []) (fields row from (take i ks) ++ (10 ∷ []))
-    ∙ ap (λ (j : List ℕ). t ++ (letter ∷ (fields row from j ++ (10 ∷ [])))) (take_all i ks l)) h
+pub line_is : (row : List ℕ) (letter from : ℕ) (ks : List ℕ) (i : ℕ) → length ks ≤ i → (letter ∷ []) ++ fields row from (take i ks) ++ (10 ∷ []) ≡ line_of letter row from ks
+line_is row letter from ks i l = ap (λ (j : List ℕ). letter ∷ (fields row from j ++ (10 ∷ []))) (take_all i ks l)
 
 -- ---- the lines of a table, one after the other
-pub lines_start : (B t row u : List ℕ) (letter w : ℕ) (ks : List ℕ) (at : ℕ) → Holds t B u at → Holds (t ++ lines_of letter row w ks 0) B u at
+pub lines_none : (row : List ℕ) (letter w : ℕ) (ks : List ℕ) → [] ≡ lines_of letter row w ks 0
 unfolding lines_of
-lines_start B t row u letter w ks at h = subst (λ (x : List ℕ). Holds x B u at) (sym (append-nil t)) h
+lines_none row letter w ks = refl
 
-pub lines_more : (B t row u : List ℕ) (letter w : ℕ) (ks : List ℕ) (at i from : ℕ) → from ≡ w * i → Holds ((t ++ lines_of letter row w ks i) ++ line_of letter row from ks) B u at → Holds (t ++ lines_of letter row w ks (i + 1)) B u at
+pub lines_more : (row : List ℕ) (letter w : ℕ) (ks : List ℕ) (i : ℕ) → lines_of letter row w ks i ++ line_of letter row (w * i) ks ≡ lines_of letter row w ks (i + 1)
 unfolding lines_of
-lines_more B t row u letter w ks at i from e h =
-    subst (λ (x : List ℕ). Holds x B u at)
-    (append_assoc t (lines_of letter row w ks i) (line_of letter row from ks) ∙ ap (λ (m : ℕ). t ++ (lines_of letter row w ks i ++ line_of letter row m ks)) e
-    ∙ ap (λ (j : ℕ). t ++ lines_of letter row w ks j) (sym (add-one i))) h
-
-pub lines_all : (B t row u : List ℕ) (letter w : ℕ) (ks : List ℕ) (at i count : ℕ) → i ≡ count → Holds (t ++ lines_of letter row w ks i) B u at → Holds (t ++ lines_of letter row w ks count) B u at
-lines_all B t row u letter w ks at i count e h = subst (λ (j : ℕ). Holds (t ++ lines_of letter row w ks j) B u at) e h
+lines_more row letter w ks i = ap (λ (j : ℕ). lines_of letter row w ks j) (sym (add-one i))

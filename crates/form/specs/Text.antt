@@ -3,6 +3,7 @@ use Rattle.std.specs.Prelude.{ℕ, zero, suc, ◌+◌, ◌*◌, ◌/◌, ◌%◌
 use Rattle.records.specs.Table.{token_width, error_width, node_width, index_width}
 use Rattle.entry.specs.declared.Answer.{Answer}
 use Rattle.rules.specs.Rules.{one}
+use Rattle.form.specs.declared.Page.{Page}
 use Rattle.entry.specs.Ways.{go_on}
 use Rattle.entry.specs.Reading.{Reading, reading}
 
@@ -73,3 +74,8 @@ outline_of s = cond (ltb 4096 (length s)) (head_of (4 ∷ 0 ∷ 0 ∷ 0 ∷ 0 �
 pub record Holds (text : List ℕ) (before : List ℕ) (buffer : List ℕ) (at : ℕ) : Type 0 where
   pub count : at ≡ min (length text) (length before)
   pub bytes : buffer ≡ take at text ++ drop at before
+
+-- from page p to page q: in the same buffer a text more stands behind what it held, as far as there is room
+pub record Adds (more : List ℕ) (p q : Page) : Type 0 where
+  pub same : q.out.ghost_name ≡ p.out.ghost_name
+  pub holds : (text before : List ℕ) → Holds text before p.out.now p.at → Holds (text ++ more) before q.out.now q.at

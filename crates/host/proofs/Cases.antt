@@ -1,9 +1,8 @@
 -- The cases of the test, in the form that the code's facts have. Assumes nothing.
-use mathlib.Core.Path.{◌≡◌, refl, sym, ap, ◌∙◌}
+use mathlib.Core.Path.{◌≡◌, sym, ap, ◌∙◌}
 use mathlib.Core.Bool.{Bool, true, false, not, ◌&&◌}
 use mathlib.Core.List.{List}
-use Prim.Native.Nat.{ℕ, zero, suc, ◌-◌}
-use native.Mathlib.Omega.{arith}
+use Prim.Native.Nat.{ℕ, suc}
 use lib.Dec.{leb, ltb}
 use borrow.Author.Tests.{eq-eqb, ne_eqb}
 use Rattle.records.specs.Table.{room, token_width, error_width, node_width, index_width}
@@ -40,11 +39,6 @@ only_last T n k e z = ap (only_eof T) e ∙ ap (λ (b : Bool). b && no_eof T k) 
 pub only_other : (T : List ℕ) (n k : ℕ) → n ≡ suc k → (kind_at T k ≡ 0 → ⊥) → only_eof T n ≡ false
 unfolding only_eof
 only_other T n k e z = ap (only_eof T) e ∙ ap (λ (b : Bool). b && no_eof T k) (ne_eqb (kind_at T k) 0 z)
-
--- a count that is not 0
-pub one_before : (n : ℕ) → (n ≡ 0 → ⊥) → n ≡ suc (n - 1)
-one_before zero z = elim (z refl) [ ]
-one_before (suc k) z = omega arith
 
 -- the code tests the seven in one expression
 abbrev tested : Parser → ℕ → ℕ → ℕ → ℕ → Bool

@@ -7,7 +7,7 @@ ghost use Rattle.host.specs.Kept.{fresh, state_of, marked_as, behind, stopped_at
 ghost use Rattle.host.specs.Fits.{no_eof, only_eof, fits_in};
 
 use parser::State;
-use records::Outcome;
+use records::{InterpreterError, Node, Outcome, TokenData};
 use token::Token;
 
 // What the host keeps between two calls: the cursor, the open loops, how many tokens, errors and nodes stand in the tables, the first and the last
@@ -33,18 +33,21 @@ pub struct Parser {
 // A word of the host's is only carried along, and named by no function here.
 impl Parser {
     // Before the first statement, with what was lexed.
-    pub fn fresh(mut self, tokens: u32, errors: u32) -> Self
+    pub fn fresh(self, tokens: u32, errors: u32) -> Self
         ensures { result ≡ fresh self tokens errors }
     {
-        self.current = 0;
-        self.loops = 0;
-        self.tokens = tokens;
-        self.errors = errors;
-        self.nodes = 0;
-        self.first = 0;
-        self.last = 0;
-        self.looks = 0;
-        self.going_on()
+        let begun = Parser {
+            current: 0,
+            loops: 0,
+            tokens,
+            errors,
+            nodes: 0,
+            first: 0,
+            last: 0,
+            looks: 0,
+            ..self
+        };
+        begun.going_on()
     }
 
     // Whether the final answer is still to be given.
@@ -55,44 +58,52 @@ impl Parser {
     }
 
     // A token before EOF is left to be read.
-    pub fn going_on(mut self) -> Self
+    pub fn going_on(self) -> Self
         ensures { result ≡ marked_as 0 goes_on self }
     {
-        self.ended = 0;
-        self.outcome = Outcome::GoesOn.into();
-        self
+        Parser {
+            ended: 0,
+            outcome: u32::from(Outcome::GoesOn),
+            ..self
+        }
     }
 
     // The final answer is given.
-    pub fn closed(mut self, outcome: u32) -> Self
+    pub fn closed(self, outcome: u32) -> Self
         ensures { result ≡ marked_as 1 outcome self }
     {
-        self.ended = 1;
-        self.outcome = outcome;
-        self
+        Parser {
+            ended: 1,
+            outcome,
+            ..self
+        }
     }
 
     // After a statement, which left this state.
-    pub fn behind(mut self, s: State, statement: u32) -> Self
+    pub fn behind(self, s: State, statement: u32) -> Self
         ensures { result ≡ behind self s statement }
     {
-        self.current = s.current;
-        self.loops = s.loops;
-        self.errors = s.errors;
-        self.nodes = s.nodes;
-        self.first = parser::first_of(self.first, statement);
-        self.last = statement;
-        self.looks = s.looks;
-        self
+        Parser {
+            current: s.current,
+            loops: s.loops,
+            errors: s.errors,
+            nodes: s.nodes,
+            first: parser::first_of(self.first, statement),
+            last: statement,
+            looks: s.looks,
+            ..self
+        }
     }
 
     // At a statement that stopped the reading in this state: none of its nodes is kept, but its errors are, and its looks count.
-    pub fn stopped(mut self, s: State) -> Self
+    pub fn stopped(self, s: State) -> Self
         ensures { result ≡ stopped_at self s }
     {
-        self.errors = s.errors;
-        self.looks = s.looks;
-        self
+        Parser {
+            errors: s.errors,
+            looks: s.looks,
+            ..self
+        }
     }
 }
 
@@ -117,9 +128,7 @@ impl From<Parser> for State {
 pub fn no_eof(tokens: &[u32], n: u32) -> bool
     ensures { result ≡ no_eof tokens.now n }
 {
-    let mut i = n;
-    while i > 0 {
-        i -= 1;
+    for i in (0..n).rev() {
         if parser::kind_at(tokens, i) == Token::EOF {
             return false;
         }
@@ -128,36 +137,31 @@ pub fn no_eof(tokens: &[u32], n: u32) -> bool
 }
 
 // Whether the last of n tokens is EOF, and the only one.
+#[tactic(auto, using(crate::proofs::Cases::only_none, crate::proofs::Cases::only_last, crate::proofs::Cases::only_other))]
 pub fn only_eof(tokens: &[u32], n: u32) -> bool
     ensures { result ≡ only_eof tokens.now n }
 {
-    if n == 0 {
+    let Some(last) = n.checked_sub(1) else {
         return false;
-    }
-    let last = n - 1;
-    if parser::kind_at(tokens, last) == Token::EOF {
-        return no_eof(tokens, last);
-    }
-    false
+    };
+    parser::kind_at(tokens, last) == Token::EOF && no_eof(tokens, last)
 }
 
 // Whether a read can go on with what it is lent. The tokens are looked at only where their count fits the table.
+#[tactic(auto, using(crate::proofs::Cases::fits_decides, crate::proofs::Cases::fits_fails))]
 pub fn fits(tokens: &[u32], errors: &[u32], nodes: &[u32], index: &[u32], p: Parser) -> bool
     ensures { result ≡ fits_in tokens.now errors.now nodes.now index.now p }
 {
-    let t = records::token_room(tokens);
-    let e = records::error_room(errors);
-    let n = records::node_room(nodes);
+    let t = records::room::<TokenData>(tokens);
+    let e = records::room::<InterpreterError>(errors);
+    let n = records::room::<Node>(nodes);
     let x = records::index_room(index);
-    if (p.tokens <= t)
+    let within = (p.tokens <= t)
         & (p.errors <= e)
         & (p.nodes <= n)
         & (p.last <= n)
         & (p.tokens <= x)
         & (p.current < p.tokens)
-        & (p.loops <= p.tokens)
-    {
-        return only_eof(tokens, p.tokens);
-    }
-    false
+        & (p.loops <= p.tokens);
+    within && only_eof(tokens, p.tokens)
 }

@@ -202,7 +202,7 @@ fn emit_bare(
     requires { Within l size lines }
     ensures { (result ≡ emit_next l kind size lines tokens.old) × (tokens.new ≡ emit_table l kind size lines no_value tokens.old) }
 {
-    emit(tokens, l, kind, size, lines, literal::none())
+    emit(tokens, l, kind, size, lines, Words::default())
 }
 
 // A string, and how many bytes it decodes to.
@@ -216,7 +216,7 @@ fn emit_string(
     requires { Within l size lines × (length ≤ 65535) }
     ensures { (result ≡ emit_next l string_kind size lines tokens.old) × (tokens.new ≡ emit_table l string_kind size lines (string_words l size length) tokens.old) }
 {
-    let w = Literal::Text(l.span(size), length as u32).pack();
+    let w = Words::from(Literal::Text(l.span(size), length as u32));
     emit(tokens, l, Token::STRING, size, lines, w)
 }
 
@@ -228,7 +228,7 @@ fn emit_number(tokens: &mut [u32], l: Lexer, n: Numeral) -> Result<Lexer, Stop>
     if n.cut {
         return Err(l.stop(Outcome::NumberAtEnd));
     }
-    let w = Literal::number(n.whole, n.places, l.span(n.size)).pack();
+    let w = Words::from(Literal::number(n.whole, n.places, l.span(n.size)));
     emit(tokens, l, Token::NUMBER, n.size, 0, w)
 }
 
@@ -245,7 +245,7 @@ fn emit(
     ensures { (result ≡ emit_next l kind size lines tokens.old) × (tokens.new ≡ emit_table l kind size lines w tokens.old) }
 {
     let line = l.line + (lines as u32);
-    let room = records::push_token(
+    let room = records::push(
         tokens,
         l.tokens,
         TokenData {
@@ -283,7 +283,7 @@ fn set_error(
     ensures { (result ≡ error_next l size lines errors.old) × (errors.new ≡ error_table l message lines errors.old) }
 {
     let line = l.line + (lines as u32);
-    let room = records::push_error(
+    let room = records::push(
         errors,
         l.errors,
         InterpreterError {

@@ -14,9 +14,10 @@ fn word_at(tokens: &[u32], i: u32, behind: u32) -> u32
     ensures { result ≡ cond (eqb (kind_at tokens.now i) newline_kind) behind (i + 1) }
 {
     if parser::kind_at(tokens, i) == Token::NEWLINE {
-        return behind;
+        behind
+    } else {
+        i + 1
     }
-    i + 1
 }
 
 // Writes the words of the first n tokens, where the index has room for them. It goes backwards, so each token is looked at once.
@@ -26,10 +27,8 @@ pub fn index_lines(tokens: &[u32], index: &mut [u32], n: u32) -> bool
     if records::index_room(index) < n {
         return false;
     }
-    let mut i = n;
     let mut word = n;
-    while i > 0 {
-        i -= 1;
+    for i in (0..n).rev() {
         word = word_at(tokens, i, word);
         index[i as usize] = word;
     }

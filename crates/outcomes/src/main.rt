@@ -5,24 +5,18 @@
 use std::fs;
 use std::io::{Result, Write};
 
+// The scripts are a.gr, b.gr and so on.
 fn main(rt: HostRuntime) -> Result<()> {
-    for i in 0..SCRIPTS {
-        script(&rt, i)?;
+    for letter in b'a'..=b'v' {
+        script(&rt, letter)?;
     }
     Ok(())
 }
 
-// The scripts are a.gr, b.gr and so on.
-const SCRIPTS: u8 = 22;
-
-fn script(rt: &HostRuntime, i: u8) -> Result<()> {
-    let path = format!(in rt.alloc(); "{}.gr", letter(i) as char)?;
+fn script(rt: &HostRuntime, letter: u8) -> Result<()> {
+    let path = format!(in rt.alloc(); "{}.gr", char::from(letter))?;
     let source = fs::read(rt, path.as_str())?;
     print(rt, &source)
-}
-
-fn letter(i: u8) -> u8 {
-    if i < 26 { b'a' + i } else { b'z' }
 }
 
 fn print(rt: &HostRuntime, source: &[u8]) -> Result<()> {

@@ -53,8 +53,9 @@ module _ (rule way : ℕ) (s t e n x T E N X : List ℕ) (d : Scanned) (l : Ente
         index_table = refl;
       })
 
-  -- it is the answer
-  pub ends : (d.outcome ≡ 0 → ⊥) → Answers (reading rule way s t e n x) (record { outcome = d.outcome; tokens = d.tokens; errors = d.errors; nodes = 0; first = 0; looks = 0 }) T E N X
-  ends z =
+  -- it is the answer: no node is kept, and no look was made
+  pub ends : (nodes first looks : ℕ) → (nodes ≡ 0) × (first ≡ 0) × (looks ≡ 0) → (d.outcome ≡ 0 → ⊥)
+      → Answers (reading rule way s t e n x) (record { outcome = d.outcome; tokens = d.tokens; errors = d.errors; nodes = nodes; first = first; looks = looks }) T E N X
+  ends nodes first looks h z =
       by false _ E N (ne_eqb d.outcome 0 z)
-      (record { outcome_is = refl; tokens_are = refl; errors_are = refl; nodes_are = refl; first_is = refl; looks_are = refl; token_table = refl; error_table_lem = refl; node_table = refl; index_table = refl })
+      (record { outcome_is = refl; tokens_are = refl; errors_are = refl; nodes_are = h.0; first_is = h.1; looks_are = h.2; token_table = refl; error_table_lem = refl; node_table = refl; index_table = refl })

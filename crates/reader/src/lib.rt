@@ -21,23 +21,22 @@ pub fn read(
         result tokens.new errors.new nodes.new index.new }
 {
     let d = entry::enter(rule, way, source, tokens, errors, nodes, index);
-    if d.outcome == Outcome::Ended as u32 {
-        let p = statements::parse(rule, tokens, errors, nodes, index, d.errors);
-        return Answer {
-            outcome: p.outcome,
-            tokens: d.tokens,
-            errors: p.errors,
-            nodes: p.nodes,
-            first: p.first,
-            looks: p.looks,
-        };
-    }
-    Answer {
+    let lexed = Answer {
         outcome: d.outcome,
         tokens: d.tokens,
         errors: d.errors,
-        nodes: 0,
-        first: 0,
-        looks: 0,
+        ..Answer::default()
+    };
+    if d.outcome != Outcome::Ended as u32 {
+        return lexed;
+    }
+    let p = statements::parse(rule, tokens, errors, nodes, index, d.errors);
+    Answer {
+        outcome: p.outcome,
+        errors: p.errors,
+        nodes: p.nodes,
+        first: p.first,
+        looks: p.looks,
+        ..lexed
     }
 }

@@ -1,166 +1,83 @@
-// Reads the fields of a line, one after the other: a space stands before each.
-ghost use Rattle.std.specs.Prelude.{◌≤◌};
+// Reads the fields of a line, one after the other: a space stands before each. What is no field is None, and then the line is no vector.
+ghost use Rattle.std.specs.Prelude.{◌<◌, IfSome};
 
-// A field that was read: its value (a byte string's is its length), and where it ends. After a bad field all others are bad.
+// What is left of a line.
 #[derive(Clone, Copy)]
-pub(crate) struct Field {
-    pub(crate) good: bool,
-    pub(crate) value: u64,
-    pub(crate) end: usize,
+pub(crate) struct Fields<'a> {
+    rest: &'a [u8],
 }
 
-// The letter that a line starts with; 0 for an empty line.
-pub(crate) fn letter(s: &[u8]) -> u8 {
-    if 0 < s.len() { s[0] } else { 0 }
-}
-
-// The letter counts as the field before the first one.
-pub(crate) fn first() -> Field {
-    Field {
-        good: true,
-        value: 0,
-        end: 1,
+impl<'a> Fields<'a> {
+    pub(crate) fn new(rest: &'a [u8]) -> Fields<'a> {
+        Fields { rest }
     }
-}
 
-fn bad() -> Field {
-    Field {
-        good: false,
-        value: 0,
-        end: 0,
+    // Whether every field was read.
+    pub(crate) fn end(&self) -> Option<()> {
+        if self.rest.is_empty() { Some(()) } else { None }
     }
-}
 
-// Whether all fields up to f were good, and f is the last one.
-pub(crate) fn whole(s: &[u8], f: Field) -> bool {
-    f.good & (f.end == s.len())
-}
+    // The next field, a number.
+    pub(crate) fn number(&mut self) -> Option<u64> {
+        let field = self.rest.strip_prefix(b" ")?;
+        let size = field.iter().take_while(|c| c.is_ascii_digit()).count();
+        if size == 0 {
+            return None;
+        }
+        let (digits, rest) = field.split_at_checked(size)?;
+        self.rest = rest;
+        Some(digits.iter().fold(0, |value, c| grow(value, *c)))
+    }
 
-// The number after the field f.
-pub(crate) fn number(s: &[u8], f: Field) -> Field {
-    let good = f.good;
-    let at = f.end;
-    if good {
-        if at < s.len() {
-            if s[at] == b' ' {
-                return digits(s, at + 1);
+    // The next field, a byte string, decoded to the front of out. It gives its length.
+    pub(crate) fn string(&mut self, out: &mut [u8]) -> Option<usize> {
+        self.rest = self.rest.strip_prefix(b" ")?;
+        if let [b'-', rest @ ..] = self.rest {
+            self.rest = rest;
+            return Some(0);
+        }
+        self.pairs(out)
+    }
+
+    // Pairs of hexadecimal digits, one at least, each a byte of out, as far as out goes.
+    fn pairs(&mut self, out: &mut [u8]) -> Option<usize> {
+        for (n, place) in out.iter_mut().enumerate() {
+            match self.pair() {
+                Some(byte) => *place = byte,
+                None if n == 0 => return None,
+                None => return Some(n),
             }
         }
+        Some(out.len())
     }
-    bad()
-}
 
-// The digits from a place on; no digit is no number.
-fn digits(s: &[u8], from: usize) -> Field {
-    let mut value = 0;
-    let mut at = from;
-    while at < s.len() {
-        let d = digit(s[at]);
-        if d > 9 {
-            return Field {
-                good: from < at,
-                value,
-                end: at,
-            };
-        }
-        value = grow(value, d);
-        at += 1;
-    }
-    Field {
-        good: from < at,
-        value,
-        end: at,
+    // The byte whose two digits stand in front.
+    fn pair(&mut self) -> Option<u8> {
+        let [high, low, rest @ ..] = self.rest else {
+            return None;
+        };
+        let byte = 16 * nibble(*high)? + nibble(*low)?;
+        self.rest = rest;
+        Some(byte)
     }
 }
 
-// A decimal digit's value; 16 for any other byte.
-fn digit(c: u8) -> u64 {
-    let d = nibble(c);
-    if d < 10 { d } else { 16 }
-}
-
-// A hexadecimal digit's value; 16 for any other byte.
-fn nibble(c: u8) -> u64
-    ensures { result ≤ 16 }
+// A hexadecimal digit's value. Capital letters are none.
+fn nibble(c: u8) -> Option<u8>
+    ensures { IfSome result (λ d. d < 16) }
 {
     match c {
-        b'0'..=b'9' => (c - b'0') as u64,
-        b'a'..=b'f' => (c - b'a') as u64 + 10,
-        _ => 16,
+        b'0'..=b'9' => Some(c - b'0'),
+        b'a'..=b'f' => Some(c - b'a' + 10),
+        _ => None,
     }
 }
 
-// One digit more. Numbers that no u64 holds are cut to the largest one.
-fn grow(value: u64, d: u64) -> u64 {
-    if value > 1844674407370955160 {
-        return 18446744073709551615;
+// One decimal digit more. From a tenth of the largest u64 on, numbers are cut to that one.
+fn grow(value: u64, c: u8) -> u64 {
+    if value < u64::MAX / 10 {
+        (10 * value).saturating_add(u64::from(c.saturating_sub(b'0')))
+    } else {
+        u64::MAX
     }
-    if d > 9 {
-        return value;
-    }
-    10 * value + d
-}
-
-// The byte string after the letter, decoded to the front of out. Its value is its length.
-pub(crate) fn string(s: &[u8], out: &mut [u8]) -> Field {
-    if s.len() < 3 {
-        return bad();
-    }
-    if s[1] != b' ' {
-        return bad();
-    }
-    if s[2] == b'-' {
-        return Field {
-            good: true,
-            value: 0,
-            end: 3,
-        };
-    }
-    pairs(s, 2, out)
-}
-
-// Pairs of hexadecimal digits from a place on, each a byte of out, as far as out goes.
-fn pairs(s: &[u8], from: usize, out: &mut [u8]) -> Field {
-    let mut at = from;
-    let mut i = 0;
-    while i < out.len() {
-        let b = pair(s, at);
-        if b > 255 {
-            return Field {
-                good: from < at,
-                value: i as u64,
-                end: at,
-            };
-        }
-        out[i] = b as u8;
-        i += 1;
-        at = past(at);
-    }
-    Field {
-        good: true,
-        value: i as u64,
-        end: at,
-    }
-}
-
-// The place after a pair. A line has at most the 262,144 bytes of the input, so the test only keeps the sum from wrapping.
-fn past(at: usize) -> usize {
-    if at < 262144 { at + 2 } else { at }
-}
-
-// The byte whose two digits stand at a place; 256 where none does.
-fn pair(s: &[u8], at: usize) -> u64 {
-    if at < s.len() {
-        let next = at + 1;
-        if next < s.len() {
-            let high = nibble(s[at]);
-            let low = nibble(s[next]);
-            if high < 16 {
-                if low < 16 {
-                    return 16 * high + low;
-                }
-            }
-        }
-    }
-    256
 }

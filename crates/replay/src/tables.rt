@@ -1,122 +1,85 @@
 // The vectors of the crate records: each works on a table of its own, and most print it whole.
-use crate::fields::Field;
-use crate::{fields, print};
-use records::{InterpreterError, Node, TokenData};
-
-// Whether a vector of this letter has a table's size in front.
-pub(crate) fn has(c: u8) -> bool {
-    match c {
-        b't' | b'o' | b'p' | b'l' | b'z' | b'r' => true,
-        _ => false,
-    }
-}
+use crate::fields::Fields;
+use crate::print;
+use records::{InterpreterError, Node, Record, TokenData};
 
 // The number of words stands in front; a table has at most 64.
-pub(crate) fn vector(s: &[u8]) {
-    let f = fields::number(s, fields::first());
-    let mut t = [7u32; 64];
-    part(s, f, &mut t);
-}
-
-fn part(s: &[u8], f: Field, t: &mut [u32]) {
-    let n = f.value as usize;
-    if n <= t.len() {
-        on_table(s, f, &mut t[0..n]);
+pub(crate) fn vector(letter: u8, mut fields: Fields) -> Option<()> {
+    let mut words = [7u32; 64];
+    let t = words.get_mut(..fields.number()? as usize)?;
+    let a = low(fields.number()?);
+    if letter == b'l' {
+        let m = low(fields.number()?);
+        fields.end()?;
+        link(t, a, m);
     } else {
-        print::unknown();
+        fields.end()?;
+        at_record(letter, t, a);
     }
-}
-
-fn on_table(s: &[u8], f: Field, t: &mut [u32]) {
-    let c = fields::letter(s);
-    let a = fields::number(s, f);
-    if c == b'l' {
-        link(s, a, t);
-        return;
-    }
-    if fields::whole(s, a) {
-        at_record(c, t, low(a.value));
-    } else {
-        print::unknown();
-    }
+    Some(())
 }
 
 // The low 32 bits.
-fn low(n: u64) -> u32 {
+pub(crate) fn low(n: u64) -> u32 {
     (n % 4294967296) as u32
 }
 
 // l words r m: m made what follows the node that r names.
-fn link(s: &[u8], r: Field, t: &mut [u32]) {
-    let m = fields::number(s, r);
-    if fields::whole(s, m) {
-        records::link(t, low(r.value), low(m.value));
-        print::letter(b'l');
-        print::words(t);
-        print::end();
-    } else {
-        print::unknown();
-    }
+fn link(t: &mut [u32], r: u32, m: u32) {
+    records::link(t, r, m);
+    print::letter(b'l');
+    print::words(t);
+    print::end();
 }
 
+// What is pushed has a number of its own in each word.
+const TOKEN: TokenData = TokenData {
+    kind: 101,
+    start: 102,
+    length: 103,
+    line: 104,
+    sort: 105,
+    low: 106,
+    high: 107,
+    begins: 108,
+};
+
+const NODE: Node = Node {
+    kind: 101,
+    token1: 102,
+    token2: 103,
+    token3: 104,
+    child1: 105,
+    child2: 106,
+    child3: 107,
+    child4: 108,
+    next: 109,
+};
+
+const ERROR: InterpreterError = InterpreterError {
+    message: 101,
+    line: 102,
+    pos: 103,
+};
+
 // The vectors whose one number beside the table's size names a record.
-fn at_record(c: u8, t: &mut [u32], n: u32) {
-    match c {
-        b't' => push_token(t, n),
-        b'o' => push_node(t, n),
-        b'p' => push_error(t, n),
+fn at_record(letter: u8, t: &mut [u32], n: u32) {
+    match letter {
+        b't' => push(letter, t, n, TOKEN),
+        b'o' => push(letter, t, n, NODE),
+        b'p' => push(letter, t, n, ERROR),
         b'z' => zero(t, n),
         _ => reads(t, n),
     }
 }
 
-// The answer to a push: whether there was room, and the table.
-fn pushed(c: u8, ok: bool, t: &[u32]) {
-    print::letter(c);
-    print::flag(ok);
+// Whether there was room for the record, and the table.
+fn push<R: Record>(letter: u8, t: &mut [u32], n: u32, record: R) {
+    let had_room = records::push(t, n, record);
+    print::letter(letter);
+    print::flag(had_room);
     print::words(t);
     print::end();
-}
-
-fn push_token(t: &mut [u32], n: u32) {
-    let x = TokenData {
-        kind: 101,
-        start: 102,
-        length: 103,
-        line: 104,
-        sort: 105,
-        low: 106,
-        high: 107,
-        begins: 108,
-    };
-    let ok = records::push_token(t, n, x);
-    pushed(b't', ok, t);
-}
-
-fn push_node(t: &mut [u32], n: u32) {
-    let x = Node {
-        kind: 101,
-        token1: 102,
-        token2: 103,
-        token3: 104,
-        child1: 105,
-        child2: 106,
-        child3: 107,
-        child4: 108,
-        next: 109,
-    };
-    let ok = records::push_node(t, n, x);
-    pushed(b'o', ok, t);
-}
-
-fn push_error(t: &mut [u32], n: u32) {
-    let x = InterpreterError {
-        message: 101,
-        line: 102,
-        pos: 103,
-    };
-    let ok = records::push_error(t, n, x);
-    pushed(b'p', ok, t);
 }
 
 // z words n: all from node n on made 0.
@@ -129,7 +92,9 @@ fn zero(t: &mut [u32], n: u32) {
 
 // r words i: the words of token i that have a reader, then the table's rooms, on a table of 0, 1, 2, ..
 fn reads(t: &mut [u32], i: u32) {
-    count_up(t);
+    for (k, word) in t.iter_mut().enumerate() {
+        *word = low(k as u64);
+    }
     print::letter(b'r');
     token(t, i);
     rooms(t);
@@ -144,22 +109,7 @@ fn token(t: &[u32], i: u32) {
 }
 
 fn rooms(t: &[u32]) {
-    print::word(records::token_room(t));
-    print::word(records::error_room(t));
-    print::word(records::node_room(t));
-}
-
-// Each word its own index.
-fn count_up(t: &mut [u32]) {
-    let mut v: u32 = 0;
-    let mut i = 0;
-    while i < t.len() {
-        t[i] = v;
-        v = next(v);
-        i += 1;
-    }
-}
-
-fn next(v: u32) -> u32 {
-    if v < 4294967295 { v + 1 } else { 0 }
+    print::word(records::room::<TokenData>(t));
+    print::word(records::room::<InterpreterError>(t));
+    print::word(records::room::<Node>(t));
 }

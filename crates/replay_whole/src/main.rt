@@ -2,160 +2,122 @@
 // crate `vectors` makes from the original's answers, has what is right. Here it is proved only that nothing goes wrong on any input.
 #![tactic(auto)]
 
-ghost use Rattle.std.specs.Prelude.{◌≡◌, ◌≤◌, length};
+ghost use Rattle.std.specs.Prelude.{◌≤◌, length, IfSome};
 
 fn main() {
-    let mut input = buffer();
+    let mut input = [0u8; 262144];
     let n = io::read_full(0, &mut input);
     vectors(&input[..n]);
 }
 
-fn buffer() -> [u8; 262144]
-    ensures { 262144 ≡ length result }
-{
-    [0; 262144]
-}
+// A vector has a line of seven numbers with five digits each, as `Head` has them. The script follows, and a newline.
+const HEAD_BYTES: usize = 42;
 
-// A vector has a line of seven numbers with five digits each: the script's length in bytes, the rule, the way, the sizes of the token, error and node
-// table and of the index in words. The script follows, and a newline.
-fn vectors(s: &[u8]) {
-    let mut at = 0;
-    while at < s.len() {
-        let end = vector(s, at);
-        if end < s.len() {
-            at = end + 1;
-        } else {
-            return;
-        }
-    }
-}
-
-// Where the script ends whose vector starts at a place; the place itself where there is none.
-fn vector(s: &[u8], at: usize) -> usize
-    ensures { at ≤ result }
-{
-    if at < s.len() {
-        if 42 <= s.len() - at {
-            let head = at + 42;
-            let n = size(s, at);
-            if n <= s.len() - head {
-                let end = head + n;
-                tables(
-                    size(s, at + 6) as u32,
-                    size(s, at + 12) as u32,
-                    &s[head..end],
-                    size(s, at + 18),
-                    size(s, at + 24),
-                    size(s, at + 30),
-                    size(s, at + 36),
-                );
-                return end;
-            }
-        }
-    }
-    unknown();
-    at
-}
-
-// The number whose five digits start at a place of the input.
-fn size(s: &[u8], at: usize) -> usize
-    ensures { result ≤ 99999 }
-{
-    if 262144 < at {
-        return 0;
-    }
-    let n = 100 * digit(s, at) + 10 * digit(s, at + 1) + digit(s, at + 2);
-    100 * n + 10 * digit(s, at + 3) + digit(s, at + 4)
-}
-
-fn digit(s: &[u8], i: usize) -> usize
-    ensures { result ≤ 9 }
-{
-    if i < s.len() { value(s[i]) } else { 0 }
-}
-
-fn value(c: u8) -> usize
-    ensures { result ≤ 9 }
-{
-    match c {
-        b'0'..=b'9' => (c - b'0') as usize,
-        _ => 0,
-    }
-}
-
-// A table has at most 4,096 words, each 7 before.
-fn tables(rule: u32, way: u32, source: &[u8], t: usize, e: usize, n: usize, x: usize) {
-    let mut tokens = [7u32; 4096];
-    let mut errors = [7u32; 4096];
-    let mut nodes = [7u32; 4096];
-    let mut index = [7u32; 4096];
-    parts(
-        rule,
-        way,
-        source,
-        &mut tokens,
-        t,
-        &mut errors,
-        e,
-        &mut nodes,
-        n,
-        &mut index,
-        x,
-    );
-}
-
-fn parts(
+// The script's length in bytes, the rule, the way, and the sizes of the token, error and node table and of the index in words.
+#[derive(Clone, Copy)]
+struct Head {
+    length: usize,
     rule: u32,
     way: u32,
-    source: &[u8],
-    tokens: &mut [u32],
-    t: usize,
-    errors: &mut [u32],
-    e: usize,
-    nodes: &mut [u32],
-    n: usize,
-    index: &mut [u32],
-    x: usize,
-) {
-    if t <= tokens.len() {
-        if e <= errors.len() {
-            if n <= nodes.len() {
-                if x <= index.len() {
-                    read(
-                        rule,
-                        way,
-                        source,
-                        &mut tokens[0..t],
-                        &mut errors[0..e],
-                        &mut nodes[0..n],
-                        &mut index[0..x],
-                    );
-                    return;
-                }
-            }
-        }
+    tokens: usize,
+    errors: usize,
+    nodes: usize,
+    index: usize,
+}
+
+impl Head {
+    // The seven numbers of a line.
+    fn of(line: &[u8]) -> Option<Head> {
+        let mut fields = line.chunks(6).map(number);
+        Some(Head {
+            length: fields.next()? as usize,
+            rule: fields.next()?,
+            way: fields.next()?,
+            tokens: fields.next()? as usize,
+            errors: fields.next()? as usize,
+            nodes: fields.next()? as usize,
+            index: fields.next()? as usize,
+        })
     }
-    unknown();
+}
+
+// The number whose five digits a field starts with. Any other byte counts as 0.
+fn number(field: &[u8]) -> u32 {
+    field.iter().take(5).fold(
+        0,
+        |n: u32, byte| n.saturating_mul(10).saturating_add(digit(*byte)),
+    )
+}
+
+fn digit(byte: u8) -> u32 {
+    char::from(byte).to_digit(10).unwrap_or(0)
+}
+
+// Answers the vectors. Where none stands, the next one is looked for a byte further on.
+fn vectors(s: &[u8]) {
+    let mut rest = s;
+    while let [_, next @ ..] = rest {
+        rest = match vector(rest) {
+            Some([_, next @ ..]) => next,
+            Some([]) => return,
+            None => {
+                unknown();
+                next
+            }
+        };
+    }
+}
+
+// Answers the vector that s starts with, and gives what follows its script.
+fn vector(s: &[u8]) -> Option<&[u8]>
+    ensures { IfSome result (λ rest. length rest.now ≤ length s.now) }
+{
+    let (line, rest) = s.split_at_checked(HEAD_BYTES)?;
+    let head = Head::of(line)?;
+    let (source, rest) = rest.split_at_checked(head.length)?;
+    if answer(head, source).is_none() {
+        unknown();
+    }
+    Some(rest)
+}
+
+// What every word of a table and of the index is before.
+const BEFORE: u32 = 7;
+
+// A table has at most so many words, and so has the index.
+const MOST_WORDS: usize = 4096;
+
+// The answer, where the tables are not too long.
+fn answer(head: Head, source: &[u8]) -> Option<()> {
+    let mut tokens = [BEFORE; MOST_WORDS];
+    let mut errors = [BEFORE; MOST_WORDS];
+    let mut nodes = [BEFORE; MOST_WORDS];
+    let mut index = [BEFORE; MOST_WORDS];
+    read(
+        head,
+        source,
+        tokens.get_mut(..head.tokens)?,
+        errors.get_mut(..head.errors)?,
+        nodes.get_mut(..head.nodes)?,
+        index.get_mut(..head.index)?,
+    );
+    Some(())
 }
 
 // The answer in its order, then every word of each table and of the index.
 fn read(
-    rule: u32,
-    way: u32,
+    head: Head,
     source: &[u8],
     tokens: &mut [u32],
     errors: &mut [u32],
     nodes: &mut [u32],
     index: &mut [u32],
 ) {
-    let r = reader::read(rule, way, source, tokens, errors, nodes, index);
-    io::write_all(1, b"o");
-    word(r.outcome);
-    word(r.tokens);
-    word(r.errors);
-    word(r.nodes);
-    word(r.first);
-    word(r.looks);
+    let r = reader::read(head.rule, head.way, source, tokens, errors, nodes, index);
+    words(
+        b"o",
+        &[r.outcome, r.tokens, r.errors, r.nodes, r.first, r.looks],
+    );
     words(b"\nt", tokens);
     words(b"\ne", errors);
     words(b"\nn", nodes);
@@ -163,18 +125,12 @@ fn read(
     io::write_all(1, b"\n");
 }
 
-fn words(name: &[u8], t: &[u32]) {
+fn words(name: &[u8], table: &[u32]) {
     io::write_all(1, name);
-    let mut i = 0;
-    while i < t.len() {
-        word(t[i]);
-        i += 1;
+    for word in table {
+        io::write_all(1, b" ");
+        io::print_decimal(1, u64::from(*word));
     }
-}
-
-fn word(n: u32) {
-    io::write_all(1, b" ");
-    io::print_decimal(1, n as u64);
 }
 
 // The answer to what is no vector.

@@ -5,6 +5,3 @@ use Rattle.host.proofs.no_eof.Given as goal
 
 abbrev pub invariant-loop-i : goal.invariant-loop-i
 invariant-loop-i l = no_eof l.tokens l.i ≡ no_eof l.tokens l.n
-
-abbrev pub decreases-loop-i : goal.decreases-loop-i
-decreases-loop-i l = l.i
