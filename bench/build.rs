@@ -51,6 +51,10 @@ fn rust(text: &str) -> String {
         match line.trim_start() {
             clause if clause.starts_with("ensures ") || clause.starts_with("requires ") => {
                 rest = behind_clause(line, behind);
+                // The last clause of a trait's method has its semicolon.
+                if text[..text.len() - rest.len()].trim_end().ends_with("};") {
+                    out += ";\n";
+                }
             }
             ghost if ghost.starts_with("ghost ") => {}
             told if TOLD.iter().any(|start| told.starts_with(start)) => {}
