@@ -72,14 +72,6 @@ module _ (T : List ℕ) (message i : ℕ) (d : InterpreterError) (p : State) (E 
       ∙ sym (rw (r, push_error))
 
 -- ---- looks
-pub counted_more : (n looks : ℕ) → n ≤ 4294967295 - looks → looks + n ≡ counted_by n looks
-unfolding counted_by
-counted_more n looks h = omega arith
-
-pub counted_full : (n looks : ℕ) → 4294967295 - looks < n → looks + (4294967295 - looks) ≡ counted_by n looks
-unfolding counted_by
-counted_full n looks h = omega arith
-
 -- the state at token i with so many looks
 abbrev pub with_looks : State → ℕ → ℕ → State
 with_looks p i n = record { rule = p.rule; current = i; errors = p.errors; nodes = p.nodes; loops = p.loops; looks = n }
@@ -93,15 +85,6 @@ looked_more p m n = let e : counted_by n (counted_by m p.looks) ≡ counted_by (
 pub looked_none : (p : State) → looked p 0 ≡ p
 unfolding counted_by
 looked_none p = let e : counted_by 0 p.looks ≡ p.looks = omega arith in ap (with_looks p p.current) e
-
--- ---- loops
-pub raised_more : (n : ℕ) → n < 4294967295 → n + 1 ≡ raised n
-unfolding raised
-raised_more n h = sym (rw (lt-ltb _ _ h, raised))
-
-pub raised_full : (n : ℕ) → 4294967295 ≤ n → n ≡ raised n
-unfolding raised
-raised_full n h = sym (rw (le-ltb _ _ h, raised))
 
 -- ---- a token that is passed, or whose absence is an error
 module _ (T : View) (kind message : ℕ) (p : State) (s : Option ℕ) (h : s ≡ matches_at T p.current kind) where
@@ -138,14 +121,3 @@ module _ (T : View) (kind message : ℕ) (p : State) (s : Option ℕ) (h : s ≡
     require_stops x o k q =
         ap (λ (y : Result (State × Found) Stopped). answered y E' N) q
         ∙ sym (stops ∙ ap (λ (y : Result (State × Found) Stopped). and_then (answered y E' N) λ x q E N. reply q (Stop 1) E N) k)
-
--- a list's first member
-pub first_none : (f n : ℕ) → f ≡ 0 → n ≡ first_of f n
-unfolding first_of
-first_none zero n e = refl
-first_none (suc f) n e = absurd (omega arith)
-
-pub first_some : (f n : ℕ) → (f ≡ 0 → ⊥) → f ≡ first_of f n
-unfolding first_of
-first_some zero n h = absurd (h refl)
-first_some (suc f) n h = refl

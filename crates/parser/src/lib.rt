@@ -62,18 +62,21 @@ pub struct Coming {
 
 // ---- looking at tokens. Past the table's end every kind is EOF's.
 
+#[tactic(auto, unfolding(crate::specs::Tokens::kind_at))]
 pub fn kind_at(tokens: &[u32], i: u32) -> u32
     ensures { result ≡ kind_at tokens.now i }
 {
     records::token_kind(tokens, i)
 }
 
+#[tactic(auto, unfolding(crate::specs::Tokens::start_at))]
 pub fn start_at(tokens: &[u32], i: u32) -> u32
     ensures { result ≡ start_at tokens.now i }
 {
     records::token_start(tokens, i)
 }
 
+#[tactic(auto, unfolding(crate::specs::Tokens::line_at))]
 pub fn line_at(tokens: &[u32], i: u32) -> u32
     ensures { result ≡ line_at tokens.now i }
 {
@@ -89,7 +92,8 @@ pub struct Tokens<'a> {
 
 impl<'a> Tokens<'a> {
     pub fn new(table: &'a [u32], index: &'a [u32]) -> Self
-        ensures { view result ≡ indexed table.now index.now }
+        ensures lent { (result.table.now ≡ table.now) × (result.index.now ≡ index.now) }
+        ensures seen { view result ≡ indexed table.now index.now }
     {
         Tokens { table, index }
     }
@@ -231,35 +235,26 @@ impl<'a> Tokens<'a> {
 
 // ---- the state by value
 
-// So many looks more; a count that a word can't hold stays at the greatest. No reading comes near it.
-fn counted(looks: u32, n: u32) -> u32
-    ensures { result ≡ counted_by n looks }
-{
-    let left = 4294967295 - looks;
-    if n <= left {
-        return looks + n;
-    }
-    looks + left
-}
-
 impl State {
     // The reading goes on at token i, found after so many looks.
+    #[tactic(auto, unfolding(crate::specs::Tables::counted_by))]
     pub fn at_token(self, i: u32, n: u32) -> Self
         ensures { result ≡ moved (looked self n) i }
     {
         State {
             current: i,
-            looks: counted(self.looks, n),
+            looks: self.looks.saturating_add(n),
             ..self
         }
     }
 
-    // So many looks more.
+    // So many looks more; a count that a word can't hold stays at the greatest. No reading comes near it.
+    #[tactic(auto, unfolding(crate::specs::Tables::counted_by))]
     pub fn looked(self, n: u32) -> Self
         ensures { result ≡ looked self n }
     {
         State {
-            looks: counted(self.looks, n),
+            looks: self.looks.saturating_add(n),
             ..self
         }
     }
@@ -306,24 +301,17 @@ impl State {
         self.current
     }
 
+    #[tactic(auto, unfolding(crate::specs::Programs::raised))]
     pub fn enter_loop(self) -> Self
         ensures { result ≡ looped self (raised self.loops) }
     {
-        let n = self.loops;
-        if n < 4294967295 {
-            return self.with_loops(n + 1);
-        }
-        self.with_loops(n)
+        self.with_loops(self.loops.saturating_add(1))
     }
 
     pub fn leave_loop(self) -> Self
         ensures { result ≡ looped self (self.loops - 1) }
     {
-        let n = self.loops;
-        if n == 0 {
-            return self.with_loops(0);
-        }
-        self.with_loops(n - 1)
+        self.with_loops(self.loops.saturating_sub(1))
     }
 
     // After an enhanced for: rule two leaves its loop as a classic for's is left; rule one keeps the count, as the Rust does.
@@ -367,6 +355,7 @@ pub fn stops(p: State, outcome: Outcome) -> Out
 // ---- writing
 
 // A list's first member: the one it has, or the one that is added.
+#[tactic(auto, unfolding(crate::specs::Grammar::first_of))]
 pub fn first_of(first: u32, n: u32) -> u32
     ensures { result ≡ first_of first n }
 {

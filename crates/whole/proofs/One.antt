@@ -20,7 +20,7 @@ use Rattle.entry.specs.Reading.{Reading, Answers}
 meet : {A : Type 0} {x y z : A} → x ≡ z → y ≡ z → x ≡ y
 meet p q = p ∙ sym q
 
--- `records::push_token`, `push_error`, `push_node`
+-- `records::push`
 pub one_push : (w n : ℕ) (t ws : List ℕ) (r r' : Bool) (u u' : List ℕ) → Pushed w t n ws r u → Pushed w t n ws r' u' → (r ≡ r') × (u ≡ u')
 one_push w n t ws r r' u u' x y = (meet x.answer y.answer, meet x.table y.table)
 
