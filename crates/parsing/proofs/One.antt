@@ -47,7 +47,7 @@ one_error p q g h E E' d a b = one_answer p q g h E E' [] [] (d []) (a []) (b []
 
 -- ---- the same of the code's answers
 -- the outcome with a number, where one has it
-outcome_of : ℕ → Outcome
+abbrev outcome_of : ℕ → Outcome
 outcome_of n = get_or (Ended ∷ FatalStop ∷ NumberAtEnd ∷ NotText ∷ TooLong ∷ NoTokenRoom ∷ NoErrorRoom ∷ NoNodeRoom ∷ TooDeep ∷ NotAString ∷ NoBufferRoom ∷ NotParsed ∷ Ended ∷ WrongRule ∷ Ended ∷ Ended ∷ Ended ∷ Ended ∷ DoesNotFit ∷ GoesOn ∷ []) n Ended
 
 -- no two outcomes have one number
@@ -69,7 +69,7 @@ numbered DoesNotFit = refl
 numbered GoesOn = refl
 
 -- the code's answer, read off a definition's
-result_of : Reply → Result (State × Found) Stopped
+abbrev result_of : Reply → Result (State × Found) Stopped
 result_of (reply p (Node f) E N) = Ok (p, f)
 result_of (reply p (Stop o) E N) = Err (record { p = p; outcome = outcome_of o })
 
@@ -81,7 +81,8 @@ result_is (Err s) E N = ap (λ (o : Outcome). Err (record { p = s.p; outcome = o
 pub one_result : (r r' : Result (State × Found) Stopped) (E E' N N' : List ℕ) (d : Reply) → answered r E N ≡ d → answered r' E' N' ≡ d → (r ≡ r') × (E ≡ E') × (N ≡ N')
 one_result r r' E E' N N' d a b =
     let e : answered r E N ≡ answered r' E' N' = a ∙ sym b in
-    (sym (result_is r E N) ∙ ap result_of e ∙ result_is r' E' N', tables r r' E E' N N' e)
+    let t = tables r r' E E' N N' e in
+    (sym (result_is r E N) ∙ ap result_of e ∙ result_is r' E' N', t.0, t.1)
   where
     tables : (r r' : Result (State × Found) Stopped) (E E' N N' : List ℕ) → answered r E N ≡ answered r' E' N' → (E ≡ E') × (N ≡ N')
     tables (Ok f) (Ok g) E E' N N' e = (ap errors_of_lem e, ap nodes_of_lem e)
