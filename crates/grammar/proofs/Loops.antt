@@ -7,7 +7,7 @@ use Rattle.parser.specs.declared.Stopped.{Stopped}
 use Rattle.parser.specs.Tokens.{View, count, check_at}
 use Rattle.parser.specs.Tables.{Reply, answered, and_then, looked}
 use Rattle.parser.specs.Programs.{run}
-use Rattle.parser.specs.Grammar.{lower, levels, arguments, arguments_from, call, call_from, primary}
+use Rattle.parser.specs.Grammar.{lower, arguments, arguments_from, call, call_from, primary}
 use Rattle.operators.specs.Operators.{behind_first}
 
 module _ (T : View) (l : ℕ) (r : Reply) where

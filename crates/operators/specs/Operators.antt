@@ -6,7 +6,7 @@ use Rattle.parser.specs.Programs.{Prog, give, ◌>>=◌}
 use Rattle.parser.specs.Grammar.{Level, levels, fuel, binary_from, binary}
 use Rattle.pieces.specs.Pieces.{among, place_in}
 use Rattle.operators.specs.declared.Tried.{Tried}
-use Rattle.std.specs.Prelude.{Option, Some, None}
+use Rattle.std.specs.Prelude.{Some, None}
 
 -- the number of the level, the first of them n, that has an operator of this kind; 0 if none has
 unfoldable pub rank_in : ℕ → List Level → ℕ → ℕ

@@ -1,11 +1,11 @@
 -- Laws of writing nodes and errors, in the form that the code's facts have. Assumes nothing.
-use mathlib.Core.Path.{◌≡◌, refl, sym, ap, ◌∙◌}
+use mathlib.Core.Path.{◌≡◌, sym, ap, ◌∙◌}
 use mathlib.Core.Bool.{Bool, true, false}
 use mathlib.Core.List.{List}
-use Prim.Native.Nat.{ℕ, zero, suc, ◌+◌, ◌-◌, ◌/◌, ◌≤◌, ◌<◌}
+use Prim.Native.Nat.{ℕ, ◌+◌, ◌/◌, ◌<◌}
 use native.Mathlib.Omega.{arith}
 use native.Mathlib.Nat.{min-le_right, le_trans}
-use borrow.Author.Tests.{ltb-true, ltb-false, lt-ltb, le-ltb}
+use borrow.Author.Tests.{ltb-true, ltb-false}
 use lib.Dec.{ltb}
 use lib.ListN.{length}
 use Rattle.records.specs.Table.{room, error_width, node_width, Pushed}
@@ -15,18 +15,13 @@ use Rattle.records.specs.declared.InterpreterError.{InterpreterError}
 use Rattle.records.proofs.Put.{put_none}
 use Rattle.parser.specs.declared.State.{State}
 use Rattle.parser.specs.declared.Stopped.{Stopped}
-use Rattle.records.specs.declared.Outcome.{Outcome}
 use Rattle.records.specs.declared.Outcome.TheVariants.{FatalStop, NoErrorRoom, NoNodeRoom}
-use Rattle.records.specs.Outcomes.{outcome_number}
 use Rattle.parser.specs.declared.Found.{Found}
-use Rattle.parser.specs.Tables.{Got}
 use Rattle.parser.specs.Tables.{Node, Stop}
 use Rattle.std.specs.Prelude.{Option, Result, Ok, Err}
 use Rattle.std.specs.Prelude.{Some, None}
 use Rattle.parser.specs.Tokens.{View, matches_at}
 use Rattle.parser.specs.Tables.{Reply, reply, answered, moved, counted_by, looked, with_node, with_error, error_at, plain, error_made, push_node, push_error, and_then, consume_at, require_at}
-use Rattle.parser.specs.Programs.{raised}
-use Rattle.parser.specs.Grammar.{first_of}
 
 -- a record that had room is one that a word can count
 pub counted : (w : ℕ) (t : List ℕ) (n : ℕ) (b : Bool) → b ≡ ltb n (room w t) → b ≡ true → n < 4294967295

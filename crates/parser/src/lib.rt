@@ -6,7 +6,7 @@ ghost use Rattle.token.specs.Kind.{eof_kind};
 ghost use Rattle.records.specs.Table.{linked};
 ghost use Rattle.rules.specs.Rules.{loops_behind};
 ghost use Rattle.parser.specs.Tokens.{kind_at, start_at, line_at, after, indexed, view, skip_lines, peek_at, check_at, matches_at};
-ghost use Rattle.parser.specs.Tables.{answered, moved, counted_by, looked, looped, with_nodes, with_errors, fresh_state, error_at, push_node, push_error, plain, consume_at, require_at};
+ghost use Rattle.parser.specs.Tables.{answered, moved, counted_by, looked, looped, fresh_state, error_at, push_node, push_error, plain, consume_at, require_at};
 ghost use Rattle.parser.specs.Programs.{raised};
 ghost use Rattle.parser.specs.Grammar.{first_of};
 
@@ -202,7 +202,8 @@ impl<'a> Tokens<'a> {
         let n = p.errors;
         let e = self.error_at(message, token);
         if records::push(errors, n, e) {
-            return gives(p.with_errors(n + 1), 0);
+            let more = n + 1;
+            return gives(State { errors: more, ..p }, 0);
         }
         stops(p, Outcome::NoErrorRoom)
     }
@@ -264,20 +265,6 @@ impl State {
         ensures { result ≡ looped self n }
     {
         State { loops: n, ..self }
-    }
-
-    // With so many nodes.
-    pub fn with_nodes(self, n: u32) -> Self
-        ensures { result ≡ with_nodes self n }
-    {
-        State { nodes: n, ..self }
-    }
-
-    // With so many errors.
-    pub fn with_errors(self, n: u32) -> Self
-        ensures { result ≡ with_errors self n }
-    {
-        State { errors: n, ..self }
     }
 
     // The state that a parsing starts in, by a rule and with so many errors recorded before.
@@ -392,7 +379,7 @@ pub fn make(nodes: &mut [u32], p: State, d: Node) -> Out
     let n = p.nodes;
     if records::push(nodes, n, d) {
         let m = n + 1;
-        return gives(p.with_nodes(m), m);
+        return gives(State { nodes: m, ..p }, m);
     }
     stops(p, Outcome::NoNodeRoom)
 }

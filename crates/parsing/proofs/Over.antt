@@ -9,7 +9,6 @@ use borrow.Author.Tests.{eqb-true, leb-true}
 use lib.Dec.{leb, eqb}
 use Rattle.token.specs.Kind.{eof_kind, newline_kind, catch_kind}
 use Rattle.records.specs.Table.{linked}
-use Rattle.records.specs.declared.Node as rows
 use Rattle.records.proofs.Rooms.{lt_or_le}
 use Rattle.parser.specs.declared.State.{State}
 use Rattle.parser.specs.declared.Found.{Found}

@@ -44,11 +44,7 @@ fn refuse(p: Parser, outcome: Outcome) -> Stepped
         parser: p,
         answer: Answer {
             outcome: outcome.into(),
-            tokens: 0,
-            errors: 0,
-            nodes: 0,
-            first: 0,
-            looks: 0,
+            ..Answer::default()
         },
     }
 }

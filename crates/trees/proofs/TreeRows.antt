@@ -7,7 +7,7 @@ use Prim.Native.Nat.{ℕ, ◌+◌, ◌-◌, ◌≤◌, ◌<◌}
 use native.Mathlib.Omega.{arith}
 use lib.Dec.{eqb}
 use borrow.Author.Tests.{eqb-true}
-use Rattle.records.specs.Table.{put, field, linked, node_width}
+use Rattle.records.specs.Table.{field, node_width}
 use Rattle.records.specs.declared.Node as rows
 use Rattle.records.proofs.Rooms.{lt_or_le}
 use Rattle.trees.specs.Trees.{Sort, Expression, is_operation, tightness, tight_of, Binds, Column, Unused, One, Maybe, Many, shape_of, next_of, row_at, Chain, single, more, Child, Members, Fits, Formed, Next, Forest}

@@ -23,7 +23,7 @@ use Rattle.parser.specs.Whole.{Parsed, top_level, or_ends, if_end, statements, p
 use Rattle.records.specs.declared.Node as rows
 use Rattle.trees.specs.Trees.{Sort, is_of, Column, Unused, One, Maybe, shape_of, column_of, child_of, permits, allows, kind_of, next_of, row_at, Reaches, here, there, Chain, single, more, Child, Fits, Formed, Statement, Many, Forest, Tree}
 use Rattle.trees.proofs.TreeRows.{chain_up, Agree, Later, forest_none, forest_join}
-use Rattle.trees.proofs.TreeTyping.{Covers, Held, sort_of, tight_from, Stands, Kept, Done, kept_all, done_then, done_down, done_link, Reads, sound, lower_sound}
+use Rattle.trees.proofs.TreeTyping.{Covers, Held, sort_of, tight_from, Stands, Done, kept_all, done_then, done_down, done_link, Reads, sound, lower_sound}
 use Rattle.trees.proofs.TreeLists.{Listing, fits_later, list_done, member_link, member_next}
 use Rattle.trees.proofs.TreeReaders.{body_ok}
 

@@ -12,9 +12,8 @@ use Rattle.operators.specs.declared.Tried.{Tried}
 use Rattle.parser.specs.Grammar.{access, arguments, arguments_from, assignment, block, block_from, body, brk, call, class, classic_for, cont, dict_elements_from, dictionary, elifs_from, enhanced_for, expression_stmt, finish_call, fn_expr, fn_stmt, for_loop, fuel, function_body, if_stmt, let_stmt, list, lower, methods_from, ret, try_catch, unary, while_stmt}
 use Rattle.parser.specs.Nodes.{if_row}
 use Rattle.parser.specs.Programs.{Assignment, Declaration, Operand, run}
-use Rattle.parser.specs.Tables.{and_then, answered, push_node, reply}
+use Rattle.parser.specs.Tables.{push_node}
 use Rattle.parser.specs.Tokens.{count, view}
-use Rattle.parser.specs.Tables.{Node}
 use Rattle.parser.proofs.Exits.{given_up}
 use Rattle.parser.specs.declared.State.{State}
 use Rattle.pieces.proofs.NextKind.{peeked, placed, unplaced, none_is}
