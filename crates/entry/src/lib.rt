@@ -20,6 +20,20 @@ pub struct Answer {
     pub looks: u32,
 }
 
+// What was lexed, as an answer without a node.
+impl From<Scanned> for Answer {
+    ghost from_gives = { λ d a. a ≡ record { outcome = d.outcome; tokens = d.tokens; errors = d.errors; nodes = 0; first = 0; looks = 0 } };
+
+    fn from(d: Scanned) -> Answer {
+        Answer {
+            outcome: d.outcome,
+            tokens: d.tokens,
+            errors: d.errors,
+            ..Answer::default()
+        }
+    }
+}
+
 // The two ways of a reading.
 #[derive(Clone, Copy, PartialEq, Eq, Debug)]
 pub enum Way {

@@ -3,7 +3,7 @@ use Rattle.std.proofs.Common.{◌≡◌, ℕ, suc, List, sym}
 use Rattle.std.specs.Prelude.{Option, None, Result, Ok}
 use Rattle.parser.specs.declared.State.{State}
 use Rattle.parser.specs.declared.Found.{Found}
-use Rattle.parser.specs.declared.Stopped.{Stopped}
+use Rattle.parser.specs.declared.Halted.{Halted}
 use Rattle.parser.specs.Tokens.{View, count, check_at}
 use Rattle.parser.specs.Tables.{Reply, answered, and_then, looked}
 use Rattle.parser.specs.Programs.{run}
@@ -17,10 +17,10 @@ module _ (T : View) (l : ℕ) (r : Reply) where
   before_arguments mark m p s E N f n k e = rw (← f, n, ← k) (sym e)
 
   -- an operand was read
-  pub before_operators : (looser : ℕ) (o : Result (State × Found) Stopped) (x : State × Found) (E N : List ℕ) → o ≡ Ok x → r ≡ run T (lower T l) (behind_first T looser x.1) x.0 E N → (and_then (answered o E N) λ g q E N. run T (lower T l) (behind_first T looser g) q E N) ≡ r
+  pub before_operators : (looser : ℕ) (o : Result (State × Found) Halted) (x : State × Found) (E N : List ℕ) → o ≡ Ok x → r ≡ run T (lower T l) (behind_first T looser x.1) x.0 E N → (and_then (answered o E N) λ g q E N. run T (lower T l) (behind_first T looser g) q E N) ≡ r
   before_operators looser o x E N g e = rw g (sym e)
 
   -- what begins an expression was read
-  pub before_suffixes : (p : State) (E N E' N' : List ℕ) (o : Result (State × Found) Stopped) (x : State × Found) → answered o E' N' ≡ run T (lower T l) (primary T) p E N → o ≡ Ok x → r ≡ run T (lower T l) (call_from T (suc (count T.tokens)) x.1) x.0 E' N' → run T (lower T l) (call T) p E N ≡ r
+  pub before_suffixes : (p : State) (E N E' N' : List ℕ) (o : Result (State × Found) Halted) (x : State × Found) → answered o E' N' ≡ run T (lower T l) (primary T) p E N → o ≡ Ok x → r ≡ run T (lower T l) (call_from T (suc (count T.tokens)) x.1) x.0 E' N' → run T (lower T l) (call T) p E N ≡ r
   unfolding run call
   before_suffixes p E N E' N' o x h g e = rw (← h, g) (sym e)

@@ -482,7 +482,7 @@ pub fn declaration(t: &Tokens, errors: &mut [u32], nodes: &mut [u32], p: State, 
     ensures { answered result errors.new nodes.new ≡ lower (view t.now) levels Declaration p errors.old nodes.old }
 {
     if levels == 0 {
-        return parser::stops(p, Outcome::TooDeep);
+        return parser::stopped(p, Outcome::TooDeep as u32);
     }
     let at = p.current;
     let coming = t.peek(at);
@@ -796,7 +796,7 @@ fn unary(t: &Tokens, errors: &mut [u32], nodes: &mut [u32], p: State, levels: u3
         let j = coming.past;
         let q = p.at_token(j, n);
         if levels == 0 {
-            return parser::stops(q, Outcome::TooDeep);
+            return parser::stopped(q, Outcome::TooDeep as u32);
         }
         let (s, e) = unary(t, errors, nodes, q, levels - 1)?;
         return parser::make(nodes, s, pieces::row(Node::UNARY, j, 0, 0, e.node, 0, 0, 0));
@@ -844,7 +844,7 @@ fn assignment(t: &Tokens, errors: &mut [u32], nodes: &mut [u32], p: State, level
     ensures { answered result errors.new nodes.new ≡ lower (view t.now) levels Assignment p errors.old nodes.old }
 {
     if levels == 0 {
-        return parser::stops(p, Outcome::TooDeep);
+        return parser::stopped(p, Outcome::TooDeep as u32);
     }
     let first = unary(t, errors, nodes, p, levels - 1);
     let (q, left) = binary(t, errors, nodes, first, levels - 1, 0)?;

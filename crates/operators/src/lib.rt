@@ -84,13 +84,6 @@ fn behind_of(kind: u32) -> u32
     }
 }
 
-// How many of so many tests are made, where those that come after are not.
-fn without(tests: u32, behind: u32) -> u32
-    ensures { result ≡ tests - behind }
-{
-    tests.saturating_sub(behind)
-}
-
 // The turn at a token, where the levels tighter than `looser` are read and the last turn left those up to `tightest` open. An operator's level is between the two
 // exactly if the number of tests that come after its own is at least that of the levels up to `looser`, and below that of the levels up to `tightest`.
 pub fn turn_at(t: &Tokens, at: u32, looser: u32, tightest: u32) -> Tried
@@ -105,12 +98,12 @@ pub fn turn_at(t: &Tokens, at: u32, looser: u32, tightest: u32) -> Tried
         let rank = rank_of(kind);
         return Tried {
             turn: Some((rank, coming.past)),
-            looks: without(open, behind),
+            looks: open.saturating_sub(behind),
         };
     }
     Tried {
         turn: None,
-        looks: without(open, closed),
+        looks: open.saturating_sub(closed),
     }
 }
 

@@ -1,6 +1,6 @@
 -- What a reading gives, and the leaves that write: nodes, links and errors.
 use Rattle.std.specs.Prelude.{ℕ, ◌+◌, ◌-◌, min, true, false, List, ltb, Option, Some, None, Result, Ok, Err}
-use Rattle.records.specs.Outcomes.{fatal_stop, no_error_room, no_node_room, outcome_number}
+use Rattle.records.specs.Outcomes.{fatal_stop, no_error_room, no_node_room}
 use Rattle.records.specs.Table.{room, put, error_width, node_width}
 use Rattle.records.specs.Words.{error_words, node_words}
 use Rattle.records.specs.declared.Node as rows
@@ -8,7 +8,7 @@ use Rattle.records.specs.declared.InterpreterError.{InterpreterError}
 use Rattle.parser.specs.declared.State.{State}
 use Rattle.parser.specs.declared.Form.TheVariants.{Other}
 use Rattle.parser.specs.declared.Found.{Found}
-use Rattle.parser.specs.declared.Stopped.{Stopped}
+use Rattle.parser.specs.declared.Halted.{Halted}
 use Rattle.parser.specs.Tokens.{View, start_at, line_at, matches_at}
 
 -- a reader gives what it found, or stops the reading with an outcome
@@ -21,9 +21,9 @@ pub data Reply : Type 0 where
   reply : State → Got → List ℕ → List ℕ → Reply
 
 -- the code's answer, and the tables that it leaves, as a reader's answer
-abbrev pub answered : Result (State × Found) Stopped → List ℕ → List ℕ → Reply
+abbrev pub answered : Result (State × Found) Halted → List ℕ → List ℕ → Reply
 answered (Ok f) E N = reply f.0 (Node f.1) E N
-answered (Err s) E N = reply s.p (Stop (outcome_number s.outcome)) E N
+answered (Err s) E N = reply s.p (Stop s.outcome) E N
 
 -- the reading goes on at token i
 abbrev pub moved : State → ℕ → State

@@ -45,13 +45,13 @@ pub struct Found {
 
 // Why a reading stopped, and its state then.
 #[derive(Clone, Copy)]
-pub struct Stopped {
+pub struct Halted {
     pub p: State,
-    pub outcome: Outcome,
+    pub outcome: u32,
 }
 
 // A reader's answer: the state after what it found, or a stop, which `?` passes on.
-pub type Out = Result<(State, Found), Stopped>;
+pub type Out = Result<(State, Found), Halted>;
 
 // The next token that is no Newline: its kind, and the token past it.
 #[derive(Clone, Copy)]
@@ -205,7 +205,7 @@ impl<'a> Tokens<'a> {
             let more = n + 1;
             return gives(State { errors: more, ..p }, 0);
         }
-        stops(p, Outcome::NoErrorRoom)
+        stopped(p, Outcome::NoErrorRoom as u32)
     }
 
     // `consume`: one look; the token's reference, or its absence is an error, and 0.
@@ -228,7 +228,7 @@ impl<'a> Tokens<'a> {
             Some(i) => gives(p.at_token(i, 1), i),
             None => {
                 let (q, _) = self.set_error(errors, p.looked(1), message, at)?;
-                stops(q, Outcome::FatalStop)
+                stopped(q, Outcome::FatalStop as u32)
             }
         }
     }
@@ -332,11 +332,10 @@ pub fn gives(p: State, n: u32) -> Out
     Ok((p, found))
 }
 
-// The reading stops.
-pub fn stops(p: State, outcome: Outcome) -> Out
+pub fn stopped(p: State, outcome: u32) -> Out
     ensures { result ≡ Err (record { p = p; outcome = outcome }) }
 {
-    Err(Stopped { p, outcome })
+    Err(Halted { p, outcome })
 }
 
 // ---- writing
@@ -381,7 +380,7 @@ pub fn make(nodes: &mut [u32], p: State, d: Node) -> Out
         let m = n + 1;
         return gives(State { nodes: m, ..p }, m);
     }
-    stops(p, Outcome::NoNodeRoom)
+    stopped(p, Outcome::NoNodeRoom as u32)
 }
 
 // How the parsing ended, how many errors and nodes are kept, the first statement, and how often `check` was called.

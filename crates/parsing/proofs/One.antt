@@ -1,15 +1,11 @@
 -- Whatever a promise over an answer and the tables allows is one answer and one pair of tables. Assumes nothing.
 use mathlib.Core.Path.{◌≡◌, refl, sym, ap, ◌∙◌}
-use mathlib.Core.List.{List, [], ◌∷◌}
+use mathlib.Core.List.{List, []}
 use Prim.Native.Nat.{ℕ}
-use lib.ListN.{get_or}
 use Rattle.std.specs.Prelude.{Result, Ok, Err}
-use Rattle.records.specs.declared.Outcome.{Outcome}
-use Rattle.records.specs.declared.Outcome.TheVariants.{Ended, FatalStop, NumberAtEnd, NotText, TooLong, NoTokenRoom, NoErrorRoom, NoNodeRoom, TooDeep, NotAString, NoBufferRoom, NotParsed, WrongRule, DoesNotFit, GoesOn}
-use Rattle.records.specs.Outcomes.{outcome_number}
 use Rattle.parser.specs.declared.State.{State}
 use Rattle.parser.specs.declared.Found.{Found}
-use Rattle.parser.specs.declared.Stopped.{Stopped}
+use Rattle.parser.specs.declared.Halted.{Halted}
 use Rattle.parser.specs.Tables.{Got, Node, Stop, Reply, reply, answered}
 
 -- the state, what was found, and the two tables are the same
@@ -46,45 +42,23 @@ pub one_error : (p q : State) (g h : Got) (E E' : List ℕ) (d : List ℕ → Re
 one_error p q g h E E' d a b = one_answer p q g h E E' [] [] (d []) (a []) (b [])
 
 -- ---- the same of the code's answers
--- the outcome with a number, where one has it
-abbrev outcome_of : ℕ → Outcome
-outcome_of n = get_or (Ended ∷ FatalStop ∷ NumberAtEnd ∷ NotText ∷ TooLong ∷ NoTokenRoom ∷ NoErrorRoom ∷ NoNodeRoom ∷ TooDeep ∷ NotAString ∷ NoBufferRoom ∷ NotParsed ∷ Ended ∷ WrongRule ∷ Ended ∷ Ended ∷ Ended ∷ Ended ∷ DoesNotFit ∷ GoesOn ∷ []) n Ended
-
--- no two outcomes have one number
-pub numbered : (o : Outcome) → outcome_of (outcome_number o) ≡ o
-numbered Ended = refl
-numbered FatalStop = refl
-numbered NumberAtEnd = refl
-numbered NotText = refl
-numbered TooLong = refl
-numbered NoTokenRoom = refl
-numbered NoErrorRoom = refl
-numbered NoNodeRoom = refl
-numbered TooDeep = refl
-numbered NotAString = refl
-numbered NoBufferRoom = refl
-numbered NotParsed = refl
-numbered WrongRule = refl
-numbered DoesNotFit = refl
-numbered GoesOn = refl
-
 -- the code's answer, read off a definition's
-abbrev result_of : Reply → Result (State × Found) Stopped
+abbrev result_of : Reply → Result (State × Found) Halted
 result_of (reply p (Node f) E N) = Ok (p, f)
-result_of (reply p (Stop o) E N) = Err (record { p = p; outcome = outcome_of o })
+result_of (reply p (Stop o) E N) = Err (record { p = p; outcome = o })
 
-result_is : (r : Result (State × Found) Stopped) (E N : List ℕ) → result_of (answered r E N) ≡ r
+result_is : (r : Result (State × Found) Halted) (E N : List ℕ) → result_of (answered r E N) ≡ r
 result_is (Ok f) E N = refl
-result_is (Err s) E N = ap (λ (o : Outcome). Err (record { p = s.p; outcome = o })) (numbered s.outcome)
+result_is (Err s) E N = refl
 
 -- a reader, and whatever promises `answered .. ≡ d`
-pub one_result : (r r' : Result (State × Found) Stopped) (E E' N N' : List ℕ) (d : Reply) → answered r E N ≡ d → answered r' E' N' ≡ d → (r ≡ r') × (E ≡ E') × (N ≡ N')
+pub one_result : (r r' : Result (State × Found) Halted) (E E' N N' : List ℕ) (d : Reply) → answered r E N ≡ d → answered r' E' N' ≡ d → (r ≡ r') × (E ≡ E') × (N ≡ N')
 one_result r r' E E' N N' d a b =
     let e : answered r E N ≡ answered r' E' N' = a ∙ sym b in
     let t = tables r r' E E' N N' e in
     (sym (result_is r E N) ∙ ap result_of e ∙ result_is r' E' N', t.0, t.1)
   where
-    tables : (r r' : Result (State × Found) Stopped) (E E' N N' : List ℕ) → answered r E N ≡ answered r' E' N' → (E ≡ E') × (N ≡ N')
+    tables : (r r' : Result (State × Found) Halted) (E E' N N' : List ℕ) → answered r E N ≡ answered r' E' N' → (E ≡ E') × (N ≡ N')
     tables (Ok f) (Ok g) E E' N N' e = (ap errors_of_lem e, ap nodes_of_lem e)
     tables (Ok f) (Err s) E E' N N' e = (ap errors_of_lem e, ap nodes_of_lem e)
     tables (Err s) (Ok f) E E' N N' e = (ap errors_of_lem e, ap nodes_of_lem e)

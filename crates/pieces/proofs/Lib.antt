@@ -1,3 +1,4 @@
 pub mod Then
 pub mod NextKind
 pub mod Turns
+pub mod Ends

@@ -7,8 +7,7 @@ use native.Mathlib.Omega.{arith}
 use lib.Dec.{ltb, eqb}
 use Rattle.parser.specs.declared.State.{State}
 use Rattle.parser.specs.declared.Found.{Found}
-use Rattle.parser.specs.declared.Stopped.{Stopped}
-use Rattle.records.specs.Outcomes.{outcome_number}
+use Rattle.parser.specs.declared.Halted.{Halted}
 use Rattle.std.specs.Prelude.{Result, Ok, Err}
 use Rattle.parser.specs.Tables.{Got}
 use Rattle.parser.specs.Tables.{Node, Stop}
@@ -62,9 +61,9 @@ pub next_past : (T : View) (at kind j k : ℕ) → Next T at kind j → kind ≡
 next_past T at kind j k n e l h = found_past T at k j (matches_at T at k) refl (match_here T at kind j k n l e) h
 
 -- nor does what follows on what a reading gave
-pub both_on : (T : View) (l : ℕ) (Q : Prog) (P : Found → Prog) (p q : State) (g : Got) (o : Result (State × Found) Stopped) (E N E' N' E'' N'' : List ℕ) → answered o E' N' ≡ run T (lower T l) Q p E N → reply q g E'' N'' ≡ and_then (answered o E' N') (λ e s E N. run T (lower T l) (P e) s E N) → p.current ≤ q.current
+pub both_on : (T : View) (l : ℕ) (Q : Prog) (P : Found → Prog) (p q : State) (g : Got) (o : Result (State × Found) Halted) (E N E' N' E'' N'' : List ℕ) → answered o E' N' ≡ run T (lower T l) Q p E N → reply q g E'' N'' ≡ and_then (answered o E' N') (λ e s E N. run T (lower T l) (P e) s E N) → p.current ≤ q.current
 both_on T l Q P p q g (Ok x) E N E' N' E'' N'' e h = let a = not_back T l Q p x.0 (Node x.1) E N E' N' e in let b = not_back T l (P x.1) x.0 q g E' N' E'' N'' h in omega arith
-both_on T l Q P p q g (Err s) E N E' N' E'' N'' e h = let a = not_back T l Q p s.p (Stop (outcome_number s.outcome)) E N E' N' e in omega (arith, ap at h)
+both_on T l Q P p q g (Err s) E N E' N' E'' N'' e h = let a = not_back T l Q p s.p (Stop s.outcome) E N E' N' e in omega (arith, ap at h)
   where
     at : Reply → ℕ
     at (reply p g E N) = p.current

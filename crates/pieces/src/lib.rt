@@ -95,7 +95,7 @@ pub fn fatal(t: &Tokens, errors: &mut [u32], p: State, message: u32, token: u32)
     ensures { (N : List ℕ) → answered result errors.new N ≡ and_then (push_error t.now.table.now message token p errors.old N) λ f q E N. reply q (tables.Stop 1) E N }
 {
     let (q, _) = t.set_error(errors, p, message, token)?;
-    parser::stops(q, Outcome::FatalStop)
+    parser::stopped(q, Outcome::FatalStop as u32)
 }
 
 // Parameters up to what is no comma; the 257th is message 10.

@@ -21,12 +21,7 @@ pub fn read(
         result tokens.new errors.new nodes.new index.new }
 {
     let d = entry::enter(rule, way, source, tokens, errors, nodes, index);
-    let lexed = Answer {
-        outcome: d.outcome,
-        tokens: d.tokens,
-        errors: d.errors,
-        ..Answer::default()
-    };
+    let lexed = Answer::from(d);
     if d.outcome != Outcome::Ended as u32 {
         return lexed;
     }

@@ -1,6 +1,7 @@
 // The vectors of the lexer: a source is lexed into tables of given sizes, and the answer has every record that is kept.
 use crate::fields::Fields;
 use crate::{print, tables};
+use literal::Sort;
 use records::Outcome;
 
 // What every word of a table is before.
@@ -79,14 +80,15 @@ fn span(source: &[u8], start: usize, length: usize) {
 // The value sort; then the bytes of a text, the words of a number, or 0 for a value that has no words.
 fn value(source: &[u8], start: usize, sort: u32, low: u32, high: u32) {
     print::word(sort);
-    match sort {
-        2 => {
-            print::word(low);
-            print::word(high);
-        }
-        _ if high != 0 => print::wrong(),
-        1 => text(source, start, low as usize),
-        _ => print::word(low),
+    if sort == Sort::Number as u32 {
+        print::word(low);
+        print::word(high);
+    } else if high != 0 {
+        print::wrong();
+    } else if sort == Sort::Text as u32 {
+        text(source, start, low as usize);
+    } else {
+        print::word(low);
     }
 }
 

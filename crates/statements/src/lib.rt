@@ -29,7 +29,7 @@ pub fn parse(
         if t.is_at_end(s) {
             records::zero_rest(nodes, kept);
             return Parsed {
-                outcome: Outcome::Ended.into(),
+                outcome: Outcome::Ended as u32,
                 errors: s.errors,
                 nodes: kept,
                 first: list.first,
@@ -40,7 +40,7 @@ pub fn parse(
             Err(stop) => {
                 records::zero_rest(nodes, kept);
                 return Parsed {
-                    outcome: stop.outcome.into(),
+                    outcome: stop.outcome,
                     errors: stop.p.errors,
                     nodes: kept,
                     first: list.first,

@@ -20,19 +20,21 @@ pub struct Stepped {
 }
 
 // The parser as it is, and the answer that it holds.
-fn leave(p: Parser) -> Stepped
-    ensures { result ≡ leaving p }
-{
-    Stepped {
-        parser: p,
-        answer: Answer {
-            outcome: p.outcome,
-            tokens: p.tokens,
-            errors: p.errors,
-            nodes: p.nodes,
-            first: p.first,
-            looks: p.looks,
-        },
+impl From<Parser> for Stepped {
+    ghost from_gives = { λ p s. s ≡ leaving p };
+
+    fn from(p: Parser) -> Stepped {
+        Stepped {
+            parser: p,
+            answer: Answer {
+                outcome: p.outcome,
+                tokens: p.tokens,
+                errors: p.errors,
+                nodes: p.nodes,
+                first: p.first,
+                looks: p.looks,
+            },
+        }
     }
 }
 
@@ -50,11 +52,11 @@ fn refuse(p: Parser, outcome: Outcome) -> Stepped
 }
 
 // The final answer.
-fn finish(nodes: &mut [u32], p: Parser, outcome: Outcome) -> Stepped
-    ensures { (T E X : List ℕ) → left result T E nodes.new X ≡ final (outcome_number outcome) p T E nodes.old X }
+fn finish(nodes: &mut [u32], p: Parser, outcome: u32) -> Stepped
+    ensures { (T E X : List ℕ) → left result T E nodes.new X ≡ final outcome p T E nodes.old X }
 {
     records::zero_rest(nodes, p.nodes);
-    leave(p.closed(outcome.into()))
+    Stepped::from(p.closed(outcome))
 }
 
 // A token before EOF is left to be read, or the reading is at its end.
@@ -62,9 +64,9 @@ fn rest(tokens: &[u32], nodes: &mut [u32], p: Parser) -> Stepped
     ensures { (E X : List ℕ) → left result tokens.now E nodes.new X ≡ rest_of tokens.now p E nodes.old X }
 {
     if parser::kind_at(tokens, p.current) == Token::EOF {
-        return finish(nodes, p, Outcome::Ended);
+        return finish(nodes, p, Outcome::Ended as u32);
     }
-    leave(p.going_on())
+    Stepped::from(p.going_on())
 }
 
 // One top-level statement, by the reader that `parse` uses too.
@@ -72,7 +74,7 @@ fn one(tokens: &[u32], errors: &mut [u32], nodes: &mut [u32], index: &[u32], p: 
     ensures { left result tokens.now errors.new nodes.new index.now ≡ one_of tokens.now p errors.old nodes.old index.now }
 {
     if parser::kind_at(tokens, p.current) == Token::EOF {
-        return finish(nodes, p, Outcome::Ended);
+        return finish(nodes, p, Outcome::Ended as u32);
     }
     let t = Tokens::new(tokens, index);
     match statements::top_level(&t, errors, nodes, State::from(p)) {
@@ -107,7 +109,7 @@ pub fn start(
     if d.outcome == Outcome::Ended as u32 {
         return rest(tokens, nodes, q);
     }
-    leave(q.closed(d.outcome))
+    Stepped::from(q.closed(d.outcome))
 }
 
 // The core of `read`: the final answer once more, 18, 13, or one statement. The source is not looked at again.
@@ -126,7 +128,7 @@ pub fn step(
         × (index.new ≡ (next_of tokens.old errors.old nodes.old index.old p).index) }
 {
     if !p.is_open() {
-        return leave(p);
+        return Stepped::from(p);
     }
     if !host::fits(tokens, errors, nodes, index, p) {
         return refuse(p, Outcome::DoesNotFit);

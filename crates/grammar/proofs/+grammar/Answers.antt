@@ -96,7 +96,7 @@ arguments-loop-n-preserved t c =
 pub assignment-returns-then-levels-eq0 : goal.assignment-returns-then-levels-eq0
 assignment-returns-then-levels-eq0 t c =
     let z = lower_zero (view c.args.t.now) c.args.levels Assignment c.args.p c.args.errors.now c.args.nodes.now c.if-levels-eq0.true in
-    rw (z, c.stops.ensures)
+    rw (z, c.stopped.ensures)
 
 pub assignment-returns-in_err-q : goal.assignment-returns-in_err-q
 unfolding run body assignment
@@ -336,7 +336,7 @@ class-returns t c = rw (← c.consume.ensures c.args.nodes.now, c.in_ok-q.was, �
 pub declaration-returns-then-levels-eq0 : goal.declaration-returns-then-levels-eq0
 declaration-returns-then-levels-eq0 t c =
     let z = lower_zero (view c.args.t.now) c.args.levels Declaration c.args.p c.args.errors.now c.args.nodes.now c.if-levels-eq0.true in
-    rw (z, c.stops.ensures)
+    rw (z, c.stopped.ensures)
 
 pub declaration-returns-then-kind-eq-CLASS : goal.declaration-returns-then-kind-eq-CLASS
 unfolding run body
@@ -906,7 +906,7 @@ unary-returns-then-levels-eq0 t c =
     let n = peeked (view c.args.t.now) c.args.p.current _ c.peek-coming.ensures in
     let h = unary_prefix (view c.args.t.now) (lower (view c.args.t.now) c.args.levels) c.args.p c.args.errors.now c.args.nodes.now _ _ n _ (placed _ _ _ c.prefix_place.ensures c.in-Some.is).0 (placed _ _ _ c.prefix_place.ensures c.in-Some.is).1 in
     let z = lower_zero (view c.args.t.now) c.args.levels Operand c.at_token-q.result c.args.errors.now c.args.nodes.now c.if-levels-eq0.true in
-    rw (h, ← c.at_token-q.ensures, c.stops.ensures) (rw (z))
+    rw (h, ← c.at_token-q.ensures, c.stopped.ensures) (rw (z))
 
 pub unary-returns-in_err-s : goal.unary-returns-in_err-s
 unfolding run body

@@ -11,4 +11,4 @@ returns-then-push c = λ E.
 pub returns : goal.returns
 returns c = λ E.
     let a = c.args in
-    node_refused a.d a.p E a.nodes.now _ _ c.stops.result c.push.ensures c.if-push.false c.stops.ensures
+    node_refused a.d a.p E a.nodes.now _ _ c.stopped.result c.push.ensures c.if-push.false c.stopped.ensures

@@ -6,12 +6,12 @@ use Rattle.statements.proofs.parse.Goals as goal
 pub returns-then-is_at_end : goal.returns-then-is_at_end
 returns-then-is_at_end c =
     let e = at_end_lem (view c.new-t.result) c.loop-t.invariant.fuel c.loop-t.list.first c.loop-t.list.last c.loop-t.s c.loop-t.errors c.loop-t.nodes (sym c.is_at_end.ensures ∙ c.if-is_at_end.true) in
-    rw (← c.new-t.ensures.seen, c.zero_rest.ensures, c.into.ensures) (ends_so _ _ _ _ c.loop-t.s _ _ (before_statements _ _ _ _ _ _ _ c.fresh-s.ensures c.loop-t.invariant.same ∙ e))
+    rw (← c.new-t.ensures.seen, c.zero_rest.ensures) (ends_so _ _ _ _ c.loop-t.s _ _ (before_statements _ _ _ _ _ _ _ c.fresh-s.ensures c.loop-t.invariant.same ∙ e))
 
 pub returns-in-Err : goal.returns-in-Err
 returns-in-Err c =
     let e = stops (view c.new-t.result) c.loop-t.invariant.fuel c.loop-t.list.first c.loop-t.list.last c.loop-t.s c.loop-t.errors c.loop-t.nodes _ _ _ _ (sym c.is_at_end.ensures ∙ c.if-is_at_end.false) (rw c.in-Err.is at c.top_level.ensures) _ refl in
-    rw (← c.new-t.ensures.seen, c.zero_rest-in-Err.ensures, c.into-in-Err.ensures) (ends_so _ _ _ _ c.in-Err.stop.p _ _ (before_statements _ _ _ _ _ _ _ c.fresh-s.ensures c.loop-t.invariant.same ∙ e))
+    rw (← c.new-t.ensures.seen, c.zero_rest-in-Err.ensures) (ends_so _ _ _ _ c.in-Err.stop.p _ _ (before_statements _ _ _ _ _ _ _ c.fresh-s.ensures c.loop-t.invariant.same ∙ e))
 
 pub loop-t-smaller : goal.loop-t-smaller
 loop-t-smaller c = let g = statement_past (view c.new-t.result) c.loop-t.invariant.fuel c.loop-t.list.first c.loop-t.list.last c.loop-t.s c.loop-t.errors c.loop-t.nodes _ _ _ _ (sym c.is_at_end.ensures ∙ c.if-is_at_end.false) (rw c.in-Ok.is at c.top_level.ensures) _ refl in omega arith

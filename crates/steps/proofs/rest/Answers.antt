@@ -11,4 +11,4 @@ returns-then-kind_at-eq-EOF c = λ E X.
 pub returns : goal.returns
 returns c = λ E X.
     let a = c.args in
-    (λ i. left ((c.leave.ensures ∙ ap leaving c.going_on.ensures) i) a.tokens.now E a.nodes.now X) ∙ sym (rest_stays a.tokens.now a.p E a.nodes.now X _ c.kind_at.ensures c.if-kind_at-eq-EOF.false)
+    (λ i. left ((c.from.ensures ∙ ap leaving c.going_on.ensures) i) a.tokens.now E a.nodes.now X) ∙ sym (rest_stays a.tokens.now a.p E a.nodes.now X _ c.kind_at.ensures c.if-kind_at-eq-EOF.false)

@@ -16,4 +16,4 @@ returns-then-d c =
 pub returns : goal.returns
 returns c =
     let a = c.args in
-    parts _ _ (begun_ends a.source.now a.tokens.now a.errors.now a.nodes.now a.index.now a.p (sym c.is_known.ensures ∙ c.if-not-is_known.false) _ _ _ _ _ c.enter-d.ensures _ c.fresh-q.ensures c.if-d.false _ (c.leave.ensures ∙ ap leaving c.closed.ensures))
+    parts _ _ (begun_ends a.source.now a.tokens.now a.errors.now a.nodes.now a.index.now a.p (sym c.is_known.ensures ∙ c.if-not-is_known.false) _ _ _ _ _ c.enter-d.ensures _ c.fresh-q.ensures c.if-d.false _ (c.from.ensures ∙ ap leaving c.closed.ensures))

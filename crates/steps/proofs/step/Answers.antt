@@ -7,7 +7,7 @@ use Rattle.steps.proofs.step.Goals as goal
 pub returns-then-not-is_open : goal.returns-then-not-is_open
 returns-then-not-is_open c =
     let a = c.args in
-    parts _ _ ((λ i. left (c.leave.ensures i) a.tokens.now a.errors.now a.nodes.now a.index.now) ∙ next_again a.tokens.now a.errors.now a.nodes.now a.index.now a.p (eqb-false _ 0 (sym c.is_open.ensures ∙ c.if-not-is_open.true)))
+    parts _ _ ((λ i. left (c.from.ensures i) a.tokens.now a.errors.now a.nodes.now a.index.now) ∙ next_again a.tokens.now a.errors.now a.nodes.now a.index.now a.p (eqb-false _ 0 (sym c.is_open.ensures ∙ c.if-not-is_open.true)))
 
 pub returns-then-not-fits : goal.returns-then-not-fits
 returns-then-not-fits c =

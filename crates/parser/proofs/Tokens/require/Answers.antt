@@ -17,4 +17,4 @@ returns-in_err-q-in-None c = λ N.
 pub returns-in_ok-q-in-None : goal.returns-in_ok-q-in-None
 returns-in_ok-q-in-None c = λ N.
     let a = c.args in
-    require_stops (view a.self.now) a.kind a.message a.p _ c.matches.ensures a.errors.now _ N _ _ c.in-None.is c.looked.ensures (c.set_error.ensures N) _ c.stops.result (c.in_ok-q-in-None.was) c.stops.ensures
+    require_stops (view a.self.now) a.kind a.message a.p _ c.matches.ensures a.errors.now _ N _ _ c.in-None.is c.looked.ensures (c.set_error.ensures N) _ c.stopped.result (c.in_ok-q-in-None.was) c.stopped.ensures

@@ -11,4 +11,4 @@ returns-then-push c = λ N.
 pub returns : goal.returns
 returns c = λ N.
     let a = c.args in
-    error_refused a.self.now.table.now a.message a.token _ a.p a.errors.now _ N _ c.stops.result c.error_at-e.ensures c.push.ensures c.if-push.false c.stops.ensures
+    error_refused a.self.now.table.now a.message a.token _ a.p a.errors.now _ N _ c.stopped.result c.error_at-e.ensures c.push.ensures c.if-push.false c.stopped.ensures
