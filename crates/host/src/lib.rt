@@ -30,7 +30,7 @@ pub struct Parser {
     pub looks: u32,
 }
 
-// A word of the host's is only carried along, and named by no function here.
+// A word of the host's is only carried along, and named by no function here but the conversion.
 impl Parser {
     // Before the first statement, with what was lexed.
     pub fn fresh(self, tokens: u32, errors: u32) -> Self
