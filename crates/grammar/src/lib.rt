@@ -443,37 +443,25 @@ fn while_stmt(
 fn stmt(t: &Tokens, errors: &mut [u32], nodes: &mut [u32], p: State, levels: u32) -> Out
     ensures { answered result errors.new nodes.new ≡ run_at (view t.now) levels (specs.statement (view t.now)) p errors.old nodes.old }
 {
-    let at = p.current;
-    let coming = t.peek(at);
-    let kind = coming.kind;
+    let coming = t.peek(p.current);
     let i = coming.past;
-    if kind == Token::FOR {
-        return for_loop(t, errors, nodes, p.at_token(i, 1), levels, i);
+    match coming.kind {
+        Token::FOR => for_loop(t, errors, nodes, p.at_token(i, 1), levels, i),
+        Token::TRY => try_catch(t, errors, nodes, p.at_token(i, 2), levels),
+        Token::IF => if_stmt(t, errors, nodes, p.at_token(i, 3), levels, i),
+        Token::RETURN => ret(t, errors, nodes, p.at_token(i, 4), levels, i),
+        Token::BREAK => pieces::jump(t, errors, nodes, p.at_token(i, 5), Node::BREAK, i),
+        Token::CONTINUE => pieces::jump(t, errors, nodes, p.at_token(i, 6), Node::CONTINUE, i),
+        Token::WHILE => while_stmt(t, errors, nodes, p.at_token(i, 7), levels, i),
+        Token::LEFT_CURLY_BRACE => {
+            let (q, b) = block(t, errors, nodes, p.at_token(i, 8), levels)?;
+            parser::make(nodes, q, pieces::row(Node::BLOCK, 0, 0, 0, b.node, 0, 0, 0))
+        }
+        _ => {
+            let g = assignment(t, errors, nodes, p.looked(8), levels);
+            pieces::expression_stmt(nodes, g)
+        }
     }
-    if kind == Token::TRY {
-        return try_catch(t, errors, nodes, p.at_token(i, 2), levels);
-    }
-    if kind == Token::IF {
-        return if_stmt(t, errors, nodes, p.at_token(i, 3), levels, i);
-    }
-    if kind == Token::RETURN {
-        return ret(t, errors, nodes, p.at_token(i, 4), levels, i);
-    }
-    if kind == Token::BREAK {
-        return pieces::jump(t, errors, nodes, p.at_token(i, 5), Node::BREAK, i);
-    }
-    if kind == Token::CONTINUE {
-        return pieces::jump(t, errors, nodes, p.at_token(i, 6), Node::CONTINUE, i);
-    }
-    if kind == Token::WHILE {
-        return while_stmt(t, errors, nodes, p.at_token(i, 7), levels, i);
-    }
-    if kind == Token::LEFT_CURLY_BRACE {
-        let (q, b) = block(t, errors, nodes, p.at_token(i, 8), levels)?;
-        return parser::make(nodes, q, pieces::row(Node::BLOCK, 0, 0, 0, b.node, 0, 0, 0));
-    }
-    let g = assignment(t, errors, nodes, p.looked(8), levels);
-    pieces::expression_stmt(nodes, g)
 }
 
 // `declaration`, without its newline test. It opens a level.
@@ -484,20 +472,14 @@ pub fn declaration(t: &Tokens, errors: &mut [u32], nodes: &mut [u32], p: State, 
     if levels == 0 {
         return parser::stopped(p, Outcome::TooDeep as u32);
     }
-    let at = p.current;
-    let coming = t.peek(at);
-    let kind = coming.kind;
+    let coming = t.peek(p.current);
     let i = coming.past;
-    if kind == Token::CLASS {
-        return class(t, errors, nodes, p.at_token(i, 1), levels - 1);
+    match coming.kind {
+        Token::CLASS => class(t, errors, nodes, p.at_token(i, 1), levels - 1),
+        Token::FN => fn_stmt(t, errors, nodes, p.at_token(i, 2), levels - 1),
+        Token::LET => let_stmt(t, errors, nodes, p.at_token(i, 3), levels - 1),
+        _ => stmt(t, errors, nodes, p.looked(3), levels - 1),
     }
-    if kind == Token::FN {
-        return fn_stmt(t, errors, nodes, p.at_token(i, 2), levels - 1);
-    }
-    if kind == Token::LET {
-        return let_stmt(t, errors, nodes, p.at_token(i, 3), levels - 1);
-    }
-    stmt(t, errors, nodes, p.looked(3), levels - 1)
 }
 
 // Up to the mark, or to what is no comma; the 256th argument of a call is message 27.
@@ -683,62 +665,38 @@ fn primary(t: &Tokens, errors: &mut [u32], nodes: &mut [u32], p: State, levels: 
             pieces::row(Node::LITERAL, j, 0, 0, 0, 0, 0, 0),
         );
     }
-    if kind == Token::IDENTIFIER {
-        return pieces::variable(nodes, p.at_token(j, 6), j);
+    match kind {
+        Token::IDENTIFIER => pieces::variable(nodes, p.at_token(j, 6), j),
+        Token::LEFT_PAREN => {
+            let (q, e) = assignment(t, errors, nodes, p.at_token(j, 7), levels)?;
+            pieces::grouping(t, errors, nodes, q, e.node)
+        }
+        Token::LEFT_BRACE => {
+            let q = p.at_token(j, 8);
+            let g = arguments(t, errors, nodes, q, levels, Token::RIGHT_BRACE);
+            let message = Message::EXPECTED_END_OF_LIST;
+            pieces::collection(t, errors, nodes, g, Token::RIGHT_BRACE, message, Node::LIST)
+        }
+        Token::LEFT_CURLY_BRACE => {
+            let g = pairs(t, errors, nodes, p.at_token(j, 9), levels);
+            let mark = Token::RIGHT_CURLY_BRACE;
+            let message = Message::EXPECTED_END_OF_DICT;
+            pieces::collection(t, errors, nodes, g, mark, message, Node::DICTIONARY)
+        }
+        Token::FN => fn_expr(t, errors, nodes, p.at_token(j, 10), levels),
+        Token::THIS => {
+            let d = pieces::row(Node::THIS, j, 0, 0, 0, 0, 0, 0);
+            parser::make(nodes, p.at_token(j, 11), d)
+        }
+        Token::SUPER => pieces::super_expr(t, errors, nodes, p.at_token(j, 12), j),
+        _ => {
+            let s = p.looked(12);
+            if let Some(i) = t.matches(at, Token::NEWLINE) {
+                return pieces::empty(nodes, s.at_token(i, 1));
+            }
+            pieces::fatal(t, errors, s.looked(1), Message::UNDEFINED_EXPRESSION, at)
+        }
     }
-    if kind == Token::LEFT_PAREN {
-        let (q, e) = assignment(t, errors, nodes, p.at_token(j, 7), levels)?;
-        return pieces::grouping(t, errors, nodes, q, e.node);
-    }
-    if kind == Token::LEFT_BRACE {
-        let g = arguments(
-            t,
-            errors,
-            nodes,
-            p.at_token(j, 8),
-            levels,
-            Token::RIGHT_BRACE,
-        );
-        return pieces::collection(
-            t,
-            errors,
-            nodes,
-            g,
-            Token::RIGHT_BRACE,
-            Message::EXPECTED_END_OF_LIST,
-            Node::LIST,
-        );
-    }
-    if kind == Token::LEFT_CURLY_BRACE {
-        let g = pairs(t, errors, nodes, p.at_token(j, 9), levels);
-        return pieces::collection(
-            t,
-            errors,
-            nodes,
-            g,
-            Token::RIGHT_CURLY_BRACE,
-            Message::EXPECTED_END_OF_DICT,
-            Node::DICTIONARY,
-        );
-    }
-    if kind == Token::FN {
-        return fn_expr(t, errors, nodes, p.at_token(j, 10), levels);
-    }
-    if kind == Token::THIS {
-        return parser::make(
-            nodes,
-            p.at_token(j, 11),
-            pieces::row(Node::THIS, j, 0, 0, 0, 0, 0, 0),
-        );
-    }
-    if kind == Token::SUPER {
-        return pieces::super_expr(t, errors, nodes, p.at_token(j, 12), j);
-    }
-    let s = p.looked(12);
-    if let Some(i) = t.matches(at, Token::NEWLINE) {
-        return pieces::empty(nodes, s.at_token(i, 1));
-    }
-    pieces::fatal(t, errors, s.looked(1), Message::UNDEFINED_EXPRESSION, at)
 }
 
 // Most expressions end with their `primary`; those leave before the loop.
@@ -759,28 +717,25 @@ fn call(t: &Tokens, errors: &mut [u32], nodes: &mut [u32], p: State, levels: u32
         let coming = t.peek(at);
         let kind = coming.kind;
         let j = coming.past;
-        if kind == Token::LEFT_PAREN {
-            let args = arguments(
-                t,
-                errors,
-                nodes,
-                q.at_token(j, 1),
-                levels,
-                Token::RIGHT_PAREN,
-            );
-            let (r, n) = pieces::finish_call(t, errors, nodes, args, e.node)?;
-            e = n;
-            q = r;
-        } else if kind == Token::DOT {
-            let (r, n) = pieces::get(t, errors, nodes, q.at_token(j, 2), e.node)?;
-            e = n;
-            q = r;
-        } else if kind == Token::LEFT_BRACE {
-            let (r, n) = access(t, errors, nodes, q.at_token(j, 3), levels, e, j)?;
-            e = n;
-            q = r;
-        } else {
-            return pieces::found(q.looked(3), e);
+        match kind {
+            Token::LEFT_PAREN => {
+                let mark = Token::RIGHT_PAREN;
+                let args = arguments(t, errors, nodes, q.at_token(j, 1), levels, mark);
+                let (r, n) = pieces::finish_call(t, errors, nodes, args, e.node)?;
+                e = n;
+                q = r;
+            }
+            Token::DOT => {
+                let (r, n) = pieces::get(t, errors, nodes, q.at_token(j, 2), e.node)?;
+                e = n;
+                q = r;
+            }
+            Token::LEFT_BRACE => {
+                let (r, n) = access(t, errors, nodes, q.at_token(j, 3), levels, e, j)?;
+                e = n;
+                q = r;
+            }
+            _ => return pieces::found(q.looked(3), e),
         }
     }
 }

@@ -11,7 +11,7 @@ mod tables;
 use fields::Fields;
 
 fn main() {
-    // The vectors nearly fill the 65,536 bytes of the largest buffer of `io`.
+    // Room for the whole of standard input.
     let mut input = [0u8; 262144];
     let n = io::read_full(0, &mut input);
     lines(&input[..n]);

@@ -217,103 +217,103 @@ call-returns-then-is_none t c =
     let e = call_else (view c.args.t.now) (lower (view c.args.t.now) c.args.levels) (count c.args.t.now.table.now) c.in_ok-u.first c.in_ok-u.u c.primary.new.errors c.primary.new.nodes _ _ n _ (unplaced _ _ c.suffix_place.ensures (none_is c.suffix_place.result (search rules))) refl in
     rw (← c.primary.ensures, c.in_ok-u.was, e) (rw (← c.looked.ensures, c.found.ensures))
 
-pub call-loop-errors-init : goal.call-loop-errors-init
-call-loop-errors-init t c = record { fuel = count c.args.t.now.table.now; enough = omega arith; same = refl; errors = refl; nodes = refl }
+pub call-loop-mark-init : goal.call-loop-mark-init
+call-loop-mark-init t c = record { fuel = count c.args.t.now.table.now; enough = omega arith; same = refl; errors = refl; nodes = refl }
 
-pub call-returns-in_err-r : goal.call-returns-in_err-r
+pub call-returns-in_err-r-in-2 : goal.call-returns-in_err-r-in-2
 unfolding run finish_call
-call-returns-in_err-r t c =
-    let n = peeked (view c.args.t.now) c.loop-errors.q.current _ c.peek-coming-in-loop-errors.ensures in
-    let e = call_paren (view c.args.t.now) (lower (view c.args.t.now) c.args.levels) c.loop-errors.invariant.fuel c.loop-errors.e c.loop-errors.q c.loop-errors.errors c.loop-errors.nodes _ _ n c.if-kind-eq-LEFT_PAREN.true in
-    rw (given_up _ _ c.from_residual-in_err-r.ensures.1) (rw (before_suffixes _ _ _ _ _ _ _ _ _ _ c.primary.ensures c.in_ok-u.was c.loop-errors.invariant.same, e) (rw (← c.at_token.ensures, ← c.arguments-args.ensures, ← c.finish_call.ensures (lower (view c.args.t.now) c.args.levels)) (rw c.in_err-r.was)))
+call-returns-in_err-r-in-2 t c =
+    let n = peeked (view c.args.t.now) c.loop-mark.q.current _ c.peek-coming-in-loop-mark.ensures in
+    let e = call_paren (view c.args.t.now) (lower (view c.args.t.now) c.args.levels) c.loop-mark.invariant.fuel c.loop-mark.e c.loop-mark.q c.loop-mark.errors c.loop-mark.nodes _ _ n c.in-2.is in
+    rw (given_up _ _ c.from_residual-in_err-r-in-2.ensures.1) (rw (before_suffixes _ _ _ _ _ _ _ _ _ _ c.primary.ensures c.in_ok-u.was c.loop-mark.invariant.same, e) (rw (← c.at_token.ensures, ← c.arguments-args.ensures, ← c.finish_call.ensures (lower (view c.args.t.now) c.args.levels)) (rw c.in_err-r-in-2.was)))
 
-call_turn : (t : ℕ) (c : goal.call-After-n-1 t) → (c.loop-errors.q.current < c.in_ok-r.r.current) × (c.loop-errors.q.current < count c.args.t.now.table.now)
+call_turn : (t : ℕ) (c : goal.call-After-n-1 t) → (c.loop-mark.q.current < c.in_ok-r-in-2.r.current) × (c.loop-mark.q.current < count c.args.t.now.table.now)
 call_turn t c =
-    let n = peeked (view c.args.t.now) c.loop-errors.q.current _ c.peek-coming-in-loop-errors.ensures in
-    let g = next_past _ _ _ _ _ n c.if-kind-eq-LEFT_PAREN.true refl refl in
+    let n = peeked (view c.args.t.now) c.loop-mark.q.current _ c.peek-coming-in-loop-mark.ensures in
+    let g = next_past _ _ _ _ _ n c.in-2.is refl refl in
     let a = ap (λ (x : State). x.current) c.at_token.ensures in
-    let b = both_on (view c.args.t.now) c.args.levels (arguments (view c.args.t.now) right_paren_kind) (λ e. call_end c.loop-errors.e.node e) _ _ _ _ _ _ _ _ _ _ c.arguments-args.ensures (rw c.in_ok-r.was at (c.finish_call.ensures (lower (view c.args.t.now) c.args.levels))) in
+    let b = both_on (view c.args.t.now) c.args.levels (arguments (view c.args.t.now) right_paren_kind) (λ e. call_end c.loop-mark.e.node e) _ _ _ _ _ _ _ _ _ _ c.arguments-args.ensures (rw c.in_ok-r-in-2.was at (c.finish_call.ensures (lower (view c.args.t.now) c.args.levels))) in
     (omega arith, g.1)
 
-pub call-loop-errors-smaller-then-kind-eq-LEFT_PAREN : goal.call-loop-errors-smaller-then-kind-eq-LEFT_PAREN
-call-loop-errors-smaller-then-kind-eq-LEFT_PAREN t c = let g = call_turn t c in omega arith
+pub call-loop-mark-smaller-in-2 : goal.call-loop-mark-smaller-in-2
+call-loop-mark-smaller-in-2 t c = let g = call_turn t c in omega arith
 
-call_again : (t : ℕ) (c : goal.call-After-n-1 t) → suffixes_from (view c.args.t.now) c.args.levels c.loop-errors.invariant.fuel c.in_ok-r.n c.in_ok-r.r c.finish_call.new.errors c.finish_call.new.nodes ≡ suffixes_from (view c.args.t.now) c.args.levels (suc c.loop-errors.invariant.fuel) c.loop-errors.e c.loop-errors.q c.loop-errors.errors c.loop-errors.nodes
+call_again : (t : ℕ) (c : goal.call-After-n-1 t) → suffixes_from (view c.args.t.now) c.args.levels c.loop-mark.invariant.fuel c.in_ok-r-in-2.n c.in_ok-r-in-2.r c.finish_call.new.errors c.finish_call.new.nodes ≡ suffixes_from (view c.args.t.now) c.args.levels (suc c.loop-mark.invariant.fuel) c.loop-mark.e c.loop-mark.q c.loop-mark.errors c.loop-mark.nodes
 unfolding run finish_call
 call_again t c =
-    let n = peeked (view c.args.t.now) c.loop-errors.q.current _ c.peek-coming-in-loop-errors.ensures in
-    let e = call_paren (view c.args.t.now) (lower (view c.args.t.now) c.args.levels) c.loop-errors.invariant.fuel c.loop-errors.e c.loop-errors.q c.loop-errors.errors c.loop-errors.nodes _ _ n c.if-kind-eq-LEFT_PAREN.true in
-    rw (e, ← c.at_token.ensures, ← c.arguments-args.ensures) (rw (← c.finish_call.ensures (lower (view c.args.t.now) c.args.levels), c.in_ok-r.was))
+    let n = peeked (view c.args.t.now) c.loop-mark.q.current _ c.peek-coming-in-loop-mark.ensures in
+    let e = call_paren (view c.args.t.now) (lower (view c.args.t.now) c.args.levels) c.loop-mark.invariant.fuel c.loop-mark.e c.loop-mark.q c.loop-mark.errors c.loop-mark.nodes _ _ n c.in-2.is in
+    rw (e, ← c.at_token.ensures, ← c.arguments-args.ensures) (rw (← c.finish_call.ensures (lower (view c.args.t.now) c.args.levels), c.in_ok-r-in-2.was))
 
-pub call-loop-errors-preserved-then-kind-eq-LEFT_PAREN : goal.call-loop-errors-preserved-then-kind-eq-LEFT_PAREN
-call-loop-errors-preserved-then-kind-eq-LEFT_PAREN t c =
+pub call-loop-mark-preserved-in-2 : goal.call-loop-mark-preserved-in-2
+call-loop-mark-preserved-in-2 t c =
     let g = call_turn t c in
-    let f : suc (c.loop-errors.invariant.fuel - 1) ≡ c.loop-errors.invariant.fuel = omega (arith, c.loop-errors.invariant.enough) in
-    record { fuel = c.loop-errors.invariant.fuel - 1; enough = omega (arith, c.loop-errors.invariant.enough); same = rw f (call_again t c ∙ c.loop-errors.invariant.same); errors = c.finish_call.auto.errors ∙ c.arguments-args.auto.errors ∙ c.loop-errors.invariant.errors; nodes = c.finish_call.auto.nodes ∙ c.arguments-args.auto.nodes ∙ c.loop-errors.invariant.nodes }
+    let f : suc (c.loop-mark.invariant.fuel - 1) ≡ c.loop-mark.invariant.fuel = omega (arith, c.loop-mark.invariant.enough) in
+    record { fuel = c.loop-mark.invariant.fuel - 1; enough = omega (arith, c.loop-mark.invariant.enough); same = rw f (call_again t c ∙ c.loop-mark.invariant.same); errors = c.finish_call.auto.errors ∙ c.arguments-args.auto.errors ∙ c.loop-mark.invariant.errors; nodes = c.finish_call.auto.nodes ∙ c.arguments-args.auto.nodes ∙ c.loop-mark.invariant.nodes }
 
-pub call-returns-in_err-r-2 : goal.call-returns-in_err-r-2
-call-returns-in_err-r-2 t c =
-    let n = peeked (view c.args.t.now) c.loop-errors.q.current _ c.peek-coming-in-loop-errors.ensures in
-    let e = call_dot (view c.args.t.now) (lower (view c.args.t.now) c.args.levels) c.loop-errors.invariant.fuel c.loop-errors.e c.loop-errors.q c.loop-errors.errors c.loop-errors.nodes _ _ n c.if-kind-eq-DOT.true in
-    rw (given_up _ _ c.from_residual-in_err-r-2.ensures.1) (rw (before_suffixes _ _ _ _ _ _ _ _ _ _ c.primary.ensures c.in_ok-u.was c.loop-errors.invariant.same, e) (rw (← c.at_token-then-kind-eq-DOT.ensures, ← c.get.ensures (lower (view c.args.t.now) c.args.levels), c.in_err-r-2.was)))
+pub call-returns-in_err-r-in-9 : goal.call-returns-in_err-r-in-9
+call-returns-in_err-r-in-9 t c =
+    let n = peeked (view c.args.t.now) c.loop-mark.q.current _ c.peek-coming-in-loop-mark.ensures in
+    let e = call_dot (view c.args.t.now) (lower (view c.args.t.now) c.args.levels) c.loop-mark.invariant.fuel c.loop-mark.e c.loop-mark.q c.loop-mark.errors c.loop-mark.nodes _ _ n c.in-9.is in
+    rw (given_up _ _ c.from_residual-in_err-r-in-9.ensures.1) (rw (before_suffixes _ _ _ _ _ _ _ _ _ _ c.primary.ensures c.in_ok-u.was c.loop-mark.invariant.same, e) (rw (← c.at_token-in-9.ensures, ← c.get.ensures (lower (view c.args.t.now) c.args.levels), c.in_err-r-in-9.was)))
 
-call_turn_2 : (t : ℕ) (c : goal.call-After-n-then-kind-eq-DOT-1 t) → (c.loop-errors.q.current < c.in_ok-r-2.r.current) × (c.loop-errors.q.current < count c.args.t.now.table.now)
+call_turn_2 : (t : ℕ) (c : goal.call-After-n-in-9-1 t) → (c.loop-mark.q.current < c.in_ok-r-in-9.r.current) × (c.loop-mark.q.current < count c.args.t.now.table.now)
 call_turn_2 t c =
-    let n = peeked (view c.args.t.now) c.loop-errors.q.current _ c.peek-coming-in-loop-errors.ensures in
-    let g = next_past _ _ _ _ _ n c.if-kind-eq-DOT.true refl refl in
-    let a = ap (λ (x : State). x.current) c.at_token-then-kind-eq-DOT.ensures in
-    let b = not_back (view c.args.t.now) c.args.levels (get c.loop-errors.e.node) _ _ _ _ _ _ _ (rw c.in_ok-r-2.was at (c.get.ensures (lower (view c.args.t.now) c.args.levels))) in
+    let n = peeked (view c.args.t.now) c.loop-mark.q.current _ c.peek-coming-in-loop-mark.ensures in
+    let g = next_past _ _ _ _ _ n c.in-9.is refl refl in
+    let a = ap (λ (x : State). x.current) c.at_token-in-9.ensures in
+    let b = not_back (view c.args.t.now) c.args.levels (get c.loop-mark.e.node) _ _ _ _ _ _ _ (rw c.in_ok-r-in-9.was at (c.get.ensures (lower (view c.args.t.now) c.args.levels))) in
     (omega arith, g.1)
 
-pub call-loop-errors-smaller-then-kind-eq-DOT : goal.call-loop-errors-smaller-then-kind-eq-DOT
-call-loop-errors-smaller-then-kind-eq-DOT t c = let g = call_turn_2 t c in omega arith
+pub call-loop-mark-smaller-in-9 : goal.call-loop-mark-smaller-in-9
+call-loop-mark-smaller-in-9 t c = let g = call_turn_2 t c in omega arith
 
-call_again_2 : (t : ℕ) (c : goal.call-After-n-then-kind-eq-DOT-1 t) → suffixes_from (view c.args.t.now) c.args.levels c.loop-errors.invariant.fuel c.in_ok-r-2.n c.in_ok-r-2.r c.get.new.errors c.get.new.nodes ≡ suffixes_from (view c.args.t.now) c.args.levels (suc c.loop-errors.invariant.fuel) c.loop-errors.e c.loop-errors.q c.loop-errors.errors c.loop-errors.nodes
+call_again_2 : (t : ℕ) (c : goal.call-After-n-in-9-1 t) → suffixes_from (view c.args.t.now) c.args.levels c.loop-mark.invariant.fuel c.in_ok-r-in-9.n c.in_ok-r-in-9.r c.get.new.errors c.get.new.nodes ≡ suffixes_from (view c.args.t.now) c.args.levels (suc c.loop-mark.invariant.fuel) c.loop-mark.e c.loop-mark.q c.loop-mark.errors c.loop-mark.nodes
 call_again_2 t c =
-    let n = peeked (view c.args.t.now) c.loop-errors.q.current _ c.peek-coming-in-loop-errors.ensures in
-    let e = call_dot (view c.args.t.now) (lower (view c.args.t.now) c.args.levels) c.loop-errors.invariant.fuel c.loop-errors.e c.loop-errors.q c.loop-errors.errors c.loop-errors.nodes _ _ n c.if-kind-eq-DOT.true in
-    rw (e, ← c.at_token-then-kind-eq-DOT.ensures, ← c.get.ensures (lower (view c.args.t.now) c.args.levels)) (rw c.in_ok-r-2.was)
+    let n = peeked (view c.args.t.now) c.loop-mark.q.current _ c.peek-coming-in-loop-mark.ensures in
+    let e = call_dot (view c.args.t.now) (lower (view c.args.t.now) c.args.levels) c.loop-mark.invariant.fuel c.loop-mark.e c.loop-mark.q c.loop-mark.errors c.loop-mark.nodes _ _ n c.in-9.is in
+    rw (e, ← c.at_token-in-9.ensures, ← c.get.ensures (lower (view c.args.t.now) c.args.levels)) (rw c.in_ok-r-in-9.was)
 
-pub call-loop-errors-preserved-then-kind-eq-DOT : goal.call-loop-errors-preserved-then-kind-eq-DOT
-call-loop-errors-preserved-then-kind-eq-DOT t c =
+pub call-loop-mark-preserved-in-9 : goal.call-loop-mark-preserved-in-9
+call-loop-mark-preserved-in-9 t c =
     let g = call_turn_2 t c in
-    let f : suc (c.loop-errors.invariant.fuel - 1) ≡ c.loop-errors.invariant.fuel = omega (arith, c.loop-errors.invariant.enough) in
-    record { fuel = c.loop-errors.invariant.fuel - 1; enough = omega (arith, c.loop-errors.invariant.enough); same = rw f (call_again_2 t c ∙ c.loop-errors.invariant.same); errors = c.get.auto.errors ∙ c.loop-errors.invariant.errors; nodes = c.get.auto.nodes ∙ c.loop-errors.invariant.nodes }
+    let f : suc (c.loop-mark.invariant.fuel - 1) ≡ c.loop-mark.invariant.fuel = omega (arith, c.loop-mark.invariant.enough) in
+    record { fuel = c.loop-mark.invariant.fuel - 1; enough = omega (arith, c.loop-mark.invariant.enough); same = rw f (call_again_2 t c ∙ c.loop-mark.invariant.same); errors = c.get.auto.errors ∙ c.loop-mark.invariant.errors; nodes = c.get.auto.nodes ∙ c.loop-mark.invariant.nodes }
 
-pub call-returns-in_err-r-3 : goal.call-returns-in_err-r-3
-call-returns-in_err-r-3 t c =
-    let n = peeked (view c.args.t.now) c.loop-errors.q.current _ c.peek-coming-in-loop-errors.ensures in
-    let e = call_brace (view c.args.t.now) (lower (view c.args.t.now) c.args.levels) c.loop-errors.invariant.fuel c.loop-errors.e c.loop-errors.q c.loop-errors.errors c.loop-errors.nodes _ _ n c.if-kind-eq-LEFT_BRACE.true in
-    rw (given_up _ _ c.from_residual-in_err-r-3.ensures.1) (rw (before_suffixes _ _ _ _ _ _ _ _ _ _ c.primary.ensures c.in_ok-u.was c.loop-errors.invariant.same, e) (rw (← c.at_token-then-kind-eq-LEFT_BRACE.ensures, ← c.access.ensures, c.in_err-r-3.was)))
+pub call-returns-in_err-r-in-4 : goal.call-returns-in_err-r-in-4
+call-returns-in_err-r-in-4 t c =
+    let n = peeked (view c.args.t.now) c.loop-mark.q.current _ c.peek-coming-in-loop-mark.ensures in
+    let e = call_brace (view c.args.t.now) (lower (view c.args.t.now) c.args.levels) c.loop-mark.invariant.fuel c.loop-mark.e c.loop-mark.q c.loop-mark.errors c.loop-mark.nodes _ _ n c.in-4.is in
+    rw (given_up _ _ c.from_residual-in_err-r-in-4.ensures.1) (rw (before_suffixes _ _ _ _ _ _ _ _ _ _ c.primary.ensures c.in_ok-u.was c.loop-mark.invariant.same, e) (rw (← c.at_token-in-4.ensures, ← c.access.ensures, c.in_err-r-in-4.was)))
 
-call_turn_3 : (t : ℕ) (c : goal.call-After-n-then-kind-eq-LEFT_BRACE-1 t) → (c.loop-errors.q.current < c.in_ok-r-3.r.current) × (c.loop-errors.q.current < count c.args.t.now.table.now)
+call_turn_3 : (t : ℕ) (c : goal.call-After-n-in-4-1 t) → (c.loop-mark.q.current < c.in_ok-r-in-4.r.current) × (c.loop-mark.q.current < count c.args.t.now.table.now)
 call_turn_3 t c =
-    let n = peeked (view c.args.t.now) c.loop-errors.q.current _ c.peek-coming-in-loop-errors.ensures in
-    let g = next_past _ _ _ _ _ n c.if-kind-eq-LEFT_BRACE.true refl refl in
-    let a = ap (λ (x : State). x.current) c.at_token-then-kind-eq-LEFT_BRACE.ensures in
-    let b = not_back (view c.args.t.now) c.args.levels (access (view c.args.t.now) c.loop-errors.e c.peek-coming-in-loop-errors.result.past) _ _ _ _ _ _ _ (rw c.in_ok-r-3.was at c.access.ensures) in
+    let n = peeked (view c.args.t.now) c.loop-mark.q.current _ c.peek-coming-in-loop-mark.ensures in
+    let g = next_past _ _ _ _ _ n c.in-4.is refl refl in
+    let a = ap (λ (x : State). x.current) c.at_token-in-4.ensures in
+    let b = not_back (view c.args.t.now) c.args.levels (access (view c.args.t.now) c.loop-mark.e c.peek-coming-in-loop-mark.result.past) _ _ _ _ _ _ _ (rw c.in_ok-r-in-4.was at c.access.ensures) in
     (omega arith, g.1)
 
-pub call-loop-errors-smaller : goal.call-loop-errors-smaller
-call-loop-errors-smaller t c = let g = call_turn_3 t c in omega arith
+pub call-loop-mark-smaller : goal.call-loop-mark-smaller
+call-loop-mark-smaller t c = let g = call_turn_3 t c in omega arith
 
-call_again_3 : (t : ℕ) (c : goal.call-After-n-then-kind-eq-LEFT_BRACE-1 t) → suffixes_from (view c.args.t.now) c.args.levels c.loop-errors.invariant.fuel c.in_ok-r-3.n c.in_ok-r-3.r c.access.new.errors c.access.new.nodes ≡ suffixes_from (view c.args.t.now) c.args.levels (suc c.loop-errors.invariant.fuel) c.loop-errors.e c.loop-errors.q c.loop-errors.errors c.loop-errors.nodes
+call_again_3 : (t : ℕ) (c : goal.call-After-n-in-4-1 t) → suffixes_from (view c.args.t.now) c.args.levels c.loop-mark.invariant.fuel c.in_ok-r-in-4.n c.in_ok-r-in-4.r c.access.new.errors c.access.new.nodes ≡ suffixes_from (view c.args.t.now) c.args.levels (suc c.loop-mark.invariant.fuel) c.loop-mark.e c.loop-mark.q c.loop-mark.errors c.loop-mark.nodes
 call_again_3 t c =
-    let n = peeked (view c.args.t.now) c.loop-errors.q.current _ c.peek-coming-in-loop-errors.ensures in
-    let e = call_brace (view c.args.t.now) (lower (view c.args.t.now) c.args.levels) c.loop-errors.invariant.fuel c.loop-errors.e c.loop-errors.q c.loop-errors.errors c.loop-errors.nodes _ _ n c.if-kind-eq-LEFT_BRACE.true in
-    rw (e, ← c.at_token-then-kind-eq-LEFT_BRACE.ensures, ← c.access.ensures) (rw c.in_ok-r-3.was)
+    let n = peeked (view c.args.t.now) c.loop-mark.q.current _ c.peek-coming-in-loop-mark.ensures in
+    let e = call_brace (view c.args.t.now) (lower (view c.args.t.now) c.args.levels) c.loop-mark.invariant.fuel c.loop-mark.e c.loop-mark.q c.loop-mark.errors c.loop-mark.nodes _ _ n c.in-4.is in
+    rw (e, ← c.at_token-in-4.ensures, ← c.access.ensures) (rw c.in_ok-r-in-4.was)
 
-pub call-loop-errors-preserved : goal.call-loop-errors-preserved
-call-loop-errors-preserved t c =
+pub call-loop-mark-preserved : goal.call-loop-mark-preserved
+call-loop-mark-preserved t c =
     let g = call_turn_3 t c in
-    let f : suc (c.loop-errors.invariant.fuel - 1) ≡ c.loop-errors.invariant.fuel = omega (arith, c.loop-errors.invariant.enough) in
-    record { fuel = c.loop-errors.invariant.fuel - 1; enough = omega (arith, c.loop-errors.invariant.enough); same = rw f (call_again_3 t c ∙ c.loop-errors.invariant.same); errors = c.access.auto.errors ∙ c.loop-errors.invariant.errors; nodes = c.access.auto.nodes ∙ c.loop-errors.invariant.nodes }
+    let f : suc (c.loop-mark.invariant.fuel - 1) ≡ c.loop-mark.invariant.fuel = omega (arith, c.loop-mark.invariant.enough) in
+    record { fuel = c.loop-mark.invariant.fuel - 1; enough = omega (arith, c.loop-mark.invariant.enough); same = rw f (call_again_3 t c ∙ c.loop-mark.invariant.same); errors = c.access.auto.errors ∙ c.loop-mark.invariant.errors; nodes = c.access.auto.nodes ∙ c.loop-mark.invariant.nodes }
 
-pub call-returns-else-kind-eq-LEFT_BRACE : goal.call-returns-else-kind-eq-LEFT_BRACE
-call-returns-else-kind-eq-LEFT_BRACE t c =
-    let n = peeked (view c.args.t.now) c.loop-errors.q.current _ c.peek-coming-in-loop-errors.ensures in
-    let e = call_end_lem (view c.args.t.now) (lower (view c.args.t.now) c.args.levels) c.loop-errors.invariant.fuel c.loop-errors.e c.loop-errors.q c.loop-errors.errors c.loop-errors.nodes _ _ n c.if-kind-eq-LEFT_PAREN.false c.if-kind-eq-DOT.false c.if-kind-eq-LEFT_BRACE.false in
-    rw (c.found-else-kind-eq-LEFT_BRACE.ensures, c.looked-else-kind-eq-LEFT_BRACE.ensures) (sym (before_suffixes _ _ _ _ _ _ _ _ _ _ c.primary.ensures c.in_ok-u.was c.loop-errors.invariant.same ∙ e))
+pub call-returns-in_default : goal.call-returns-in_default
+call-returns-in_default t c =
+    let n = peeked (view c.args.t.now) c.loop-mark.q.current _ c.peek-coming-in-loop-mark.ensures in
+    let e = call_end_lem (view c.args.t.now) (lower (view c.args.t.now) c.args.levels) c.loop-mark.invariant.fuel c.loop-mark.e c.loop-mark.q c.loop-mark.errors c.loop-mark.nodes _ _ n (λ e. omega (arith, e)) (λ e. omega (arith, e)) (λ e. omega (arith, e)) in
+    rw (c.found-in_default.ensures, c.looked-in_default.ensures) (sym (before_suffixes _ _ _ _ _ _ _ _ _ _ c.primary.ensures c.in_ok-u.was c.loop-mark.invariant.same ∙ e))
 
 -- ---- class
 pub class-returns-in_err-q : goal.class-returns-in_err-q
@@ -338,36 +338,36 @@ declaration-returns-then-levels-eq0 t c =
     let z = lower_zero (view c.args.t.now) c.args.levels Declaration c.args.p c.args.errors.now c.args.nodes.now c.if-levels-eq0.true in
     rw (z, c.stopped.ensures)
 
-pub declaration-returns-then-kind-eq-CLASS : goal.declaration-returns-then-kind-eq-CLASS
+pub declaration-returns-in-29 : goal.declaration-returns-in-29
 unfolding run body
-declaration-returns-then-kind-eq-CLASS t c =
+declaration-returns-in-29 t c =
     let z = lower_step (view c.args.t.now) c.args.levels Declaration c.args.p c.args.errors.now c.args.nodes.now c.if-levels-eq0.false in
     let n = peeked (view c.args.t.now) c.args.p.current _ c.peek-coming.ensures in
-    let h = declaration_class (view c.args.t.now) (lower (view c.args.t.now) (c.args.levels - 1)) c.args.p c.args.errors.now c.args.nodes.now _ _ n c.if-kind-eq-CLASS.true in
+    let h = declaration_class (view c.args.t.now) (lower (view c.args.t.now) (c.args.levels - 1)) c.args.p c.args.errors.now c.args.nodes.now _ _ n c.in-29.is in
     rw (z ∙ h) (rw c.at_token.ensures at c.class.ensures)
 
-pub declaration-returns-then-kind-eq-FN : goal.declaration-returns-then-kind-eq-FN
+pub declaration-returns-in-32 : goal.declaration-returns-in-32
 unfolding run body
-declaration-returns-then-kind-eq-FN t c =
+declaration-returns-in-32 t c =
     let z = lower_step (view c.args.t.now) c.args.levels Declaration c.args.p c.args.errors.now c.args.nodes.now c.if-levels-eq0.false in
     let n = peeked (view c.args.t.now) c.args.p.current _ c.peek-coming.ensures in
-    let h = declaration_fn (view c.args.t.now) (lower (view c.args.t.now) (c.args.levels - 1)) c.args.p c.args.errors.now c.args.nodes.now _ _ n c.if-kind-eq-FN.true in
-    rw (z ∙ h) (rw c.at_token-then-kind-eq-FN.ensures at c.fn_stmt.ensures)
+    let h = declaration_fn (view c.args.t.now) (lower (view c.args.t.now) (c.args.levels - 1)) c.args.p c.args.errors.now c.args.nodes.now _ _ n c.in-32.is in
+    rw (z ∙ h) (rw c.at_token-in-32.ensures at c.fn_stmt.ensures)
 
-pub declaration-returns-then-kind-eq-LET : goal.declaration-returns-then-kind-eq-LET
+pub declaration-returns-in-44 : goal.declaration-returns-in-44
 unfolding run body
-declaration-returns-then-kind-eq-LET t c =
+declaration-returns-in-44 t c =
     let z = lower_step (view c.args.t.now) c.args.levels Declaration c.args.p c.args.errors.now c.args.nodes.now c.if-levels-eq0.false in
     let n = peeked (view c.args.t.now) c.args.p.current _ c.peek-coming.ensures in
-    let h = declaration_let (view c.args.t.now) (lower (view c.args.t.now) (c.args.levels - 1)) c.args.p c.args.errors.now c.args.nodes.now _ _ n c.if-kind-eq-LET.true in
-    rw (z ∙ h) (rw c.at_token-then-kind-eq-LET.ensures at c.let_stmt.ensures)
+    let h = declaration_let (view c.args.t.now) (lower (view c.args.t.now) (c.args.levels - 1)) c.args.p c.args.errors.now c.args.nodes.now _ _ n c.in-44.is in
+    rw (z ∙ h) (rw c.at_token-in-44.ensures at c.let_stmt.ensures)
 
-pub declaration-returns : goal.declaration-returns
+pub declaration-returns-in_default : goal.declaration-returns-in_default
 unfolding run body
-declaration-returns t c =
+declaration-returns-in_default t c =
     let z = lower_step (view c.args.t.now) c.args.levels Declaration c.args.p c.args.errors.now c.args.nodes.now c.if-levels-eq0.false in
     let n = peeked (view c.args.t.now) c.args.p.current _ c.peek-coming.ensures in
-    let h = declaration_else (view c.args.t.now) (lower (view c.args.t.now) (c.args.levels - 1)) c.args.p c.args.errors.now c.args.nodes.now _ _ n c.if-kind-eq-CLASS.false c.if-kind-eq-FN.false c.if-kind-eq-LET.false in
+    let h = declaration_else (view c.args.t.now) (lower (view c.args.t.now) (c.args.levels - 1)) c.args.p c.args.errors.now c.args.nodes.now _ _ n (λ e. omega (arith, e)) (λ e. omega (arith, e)) (λ e. omega (arith, e)) in
     rw (z ∙ h, ← c.looked.ensures, ← c.stmt.ensures)
 
 -- ---- elifs
@@ -691,74 +691,74 @@ primary-returns-in-Some t c =
     let h = primary_literal (view c.args.t.now) (lower (view c.args.t.now) c.args.levels) c.args.p c.args.errors.now c.args.nodes.now _ _ n _ (placed _ _ _ c.literal_place.ensures c.in-Some.is).0 (placed _ _ _ c.literal_place.ensures c.in-Some.is).1 in
     rw (h, ← c.at_token.ensures, ← c.row.ensures) (rw (← c.make.ensures c.args.errors.now))
 
-pub primary-returns-then-kind-eq-IDENTIFIER : goal.primary-returns-then-kind-eq-IDENTIFIER
+pub primary-returns-in-25 : goal.primary-returns-in-25
 unfolding run
-primary-returns-then-kind-eq-IDENTIFIER t c =
+primary-returns-in-25 t c =
     let n = peeked (view c.args.t.now) c.args.p.current _ c.peek-coming.ensures in
-    let h = primary_identifier (view c.args.t.now) (lower (view c.args.t.now) c.args.levels) c.args.p c.args.errors.now c.args.nodes.now _ _ n c.if-kind-eq-IDENTIFIER.true in
-    rw (h, ← c.at_token-then-kind-eq-IDENTIFIER.ensures, ← c.variable.ensures c.args.errors.now)
+    let h = primary_identifier (view c.args.t.now) (lower (view c.args.t.now) c.args.levels) c.args.p c.args.errors.now c.args.nodes.now _ _ n c.in-25.is in
+    rw (h, ← c.at_token-in-25.ensures, ← c.variable.ensures c.args.errors.now)
 
-pub primary-returns-in_err-q : goal.primary-returns-in_err-q
+pub primary-returns-in_err-q-in-2 : goal.primary-returns-in_err-q-in-2
 unfolding run
-primary-returns-in_err-q t c =
+primary-returns-in_err-q-in-2 t c =
     let n = peeked (view c.args.t.now) c.args.p.current _ c.peek-coming.ensures in
-    let h = primary_leftparen (view c.args.t.now) (lower (view c.args.t.now) c.args.levels) c.args.p c.args.errors.now c.args.nodes.now _ _ n c.if-kind-eq-LEFT_PAREN.true in
-    rw (given_up _ _ c.from_residual.ensures.1) (rw (h, ← c.at_token-then-kind-eq-LEFT_PAREN.ensures, ← c.assignment.ensures) (rw c.in_err-q.was))
+    let h = primary_leftparen (view c.args.t.now) (lower (view c.args.t.now) c.args.levels) c.args.p c.args.errors.now c.args.nodes.now _ _ n c.in-2.is in
+    rw (given_up _ _ c.from_residual.ensures.1) (rw (h, ← c.at_token-in-2.ensures, ← c.assignment.ensures) (rw c.in_err-q-in-2.was))
 
-pub primary-returns-then-kind-eq-LEFT_PAREN : goal.primary-returns-then-kind-eq-LEFT_PAREN
+pub primary-returns-in_ok-q-in-2 : goal.primary-returns-in_ok-q-in-2
 unfolding run
-primary-returns-then-kind-eq-LEFT_PAREN t c =
+primary-returns-in_ok-q-in-2 t c =
     let n = peeked (view c.args.t.now) c.args.p.current _ c.peek-coming.ensures in
-    let h = primary_leftparen (view c.args.t.now) (lower (view c.args.t.now) c.args.levels) c.args.p c.args.errors.now c.args.nodes.now _ _ n c.if-kind-eq-LEFT_PAREN.true in
-    rw (h, ← c.at_token-then-kind-eq-LEFT_PAREN.ensures, ← c.assignment.ensures) (rw (c.in_ok-q.was, ← c.grouping.ensures (lower (view c.args.t.now) c.args.levels)))
+    let h = primary_leftparen (view c.args.t.now) (lower (view c.args.t.now) c.args.levels) c.args.p c.args.errors.now c.args.nodes.now _ _ n c.in-2.is in
+    rw (h, ← c.at_token-in-2.ensures, ← c.assignment.ensures) (rw (c.in_ok-q-in-2.was, ← c.grouping.ensures (lower (view c.args.t.now) c.args.levels)))
 
-pub primary-returns-then-kind-eq-LEFT_BRACE : goal.primary-returns-then-kind-eq-LEFT_BRACE
+pub primary-returns-in-4 : goal.primary-returns-in-4
 unfolding run list
-primary-returns-then-kind-eq-LEFT_BRACE t c =
+primary-returns-in-4 t c =
     let n = peeked (view c.args.t.now) c.args.p.current _ c.peek-coming.ensures in
-    let h = primary_leftbrace (view c.args.t.now) (lower (view c.args.t.now) c.args.levels) c.args.p c.args.errors.now c.args.nodes.now _ _ n c.if-kind-eq-LEFT_BRACE.true in
-    rw (h, ← c.at_token-then-kind-eq-LEFT_BRACE.ensures, ← c.arguments-g.ensures) (rw (← c.collection.ensures (lower (view c.args.t.now) c.args.levels)))
+    let h = primary_leftbrace (view c.args.t.now) (lower (view c.args.t.now) c.args.levels) c.args.p c.args.errors.now c.args.nodes.now _ _ n c.in-4.is in
+    rw (h, ← c.at_token-q.ensures, ← c.arguments-g.ensures) (rw (← c.collection.ensures (lower (view c.args.t.now) c.args.levels)))
 
-pub primary-returns-then-kind-eq-LEFT_CURLY_BRACE : goal.primary-returns-then-kind-eq-LEFT_CURLY_BRACE
+pub primary-returns-in-7 : goal.primary-returns-in-7
 unfolding run dictionary
-primary-returns-then-kind-eq-LEFT_CURLY_BRACE t c =
+primary-returns-in-7 t c =
     let n = peeked (view c.args.t.now) c.args.p.current _ c.peek-coming.ensures in
-    let h = primary_leftcurlybrace (view c.args.t.now) (lower (view c.args.t.now) c.args.levels) c.args.p c.args.errors.now c.args.nodes.now _ _ n c.if-kind-eq-LEFT_CURLY_BRACE.true in
-    rw (h, ← c.at_token-then-kind-eq-LEFT_CURLY_BRACE.ensures, ← c.pairs-g.ensures) (rw (← c.collection-then-kind-eq-LEFT_CURLY_BRACE.ensures (lower (view c.args.t.now) c.args.levels)))
+    let h = primary_leftcurlybrace (view c.args.t.now) (lower (view c.args.t.now) c.args.levels) c.args.p c.args.errors.now c.args.nodes.now _ _ n c.in-7.is in
+    rw (h, ← c.at_token-in-7.ensures, ← c.pairs-g.ensures) (rw (← c.collection-in-7.ensures (lower (view c.args.t.now) c.args.levels)))
 
-pub primary-returns-then-kind-eq-FN : goal.primary-returns-then-kind-eq-FN
+pub primary-returns-in-32 : goal.primary-returns-in-32
 unfolding run
-primary-returns-then-kind-eq-FN t c =
+primary-returns-in-32 t c =
     let n = peeked (view c.args.t.now) c.args.p.current _ c.peek-coming.ensures in
-    let h = primary_fn (view c.args.t.now) (lower (view c.args.t.now) c.args.levels) c.args.p c.args.errors.now c.args.nodes.now _ _ n c.if-kind-eq-FN.true in
-    rw (h) (rw c.at_token-then-kind-eq-FN.ensures at c.fn_expr.ensures)
+    let h = primary_fn (view c.args.t.now) (lower (view c.args.t.now) c.args.levels) c.args.p c.args.errors.now c.args.nodes.now _ _ n c.in-32.is in
+    rw (h) (rw c.at_token-in-32.ensures at c.fn_expr.ensures)
 
-pub primary-returns-then-kind-eq-THIS : goal.primary-returns-then-kind-eq-THIS
+pub primary-returns-in-42 : goal.primary-returns-in-42
 unfolding run
-primary-returns-then-kind-eq-THIS t c =
+primary-returns-in-42 t c =
     let n = peeked (view c.args.t.now) c.args.p.current _ c.peek-coming.ensures in
-    let h = primary_this (view c.args.t.now) (lower (view c.args.t.now) c.args.levels) c.args.p c.args.errors.now c.args.nodes.now _ _ n c.if-kind-eq-THIS.true in
-    rw (h, ← c.at_token-then-kind-eq-THIS.ensures, ← c.row-then-kind-eq-THIS.ensures) (rw (← c.make-then-kind-eq-THIS.ensures c.args.errors.now))
+    let h = primary_this (view c.args.t.now) (lower (view c.args.t.now) c.args.levels) c.args.p c.args.errors.now c.args.nodes.now _ _ n c.in-42.is in
+    rw (h, ← c.at_token-in-42.ensures, ← c.row-d.ensures) (rw (← c.make-in-42.ensures c.args.errors.now))
 
-pub primary-returns-then-kind-eq-SUPER : goal.primary-returns-then-kind-eq-SUPER
+pub primary-returns-in-41 : goal.primary-returns-in-41
 unfolding run
-primary-returns-then-kind-eq-SUPER t c =
+primary-returns-in-41 t c =
     let n = peeked (view c.args.t.now) c.args.p.current _ c.peek-coming.ensures in
-    let h = primary_super (view c.args.t.now) (lower (view c.args.t.now) c.args.levels) c.args.p c.args.errors.now c.args.nodes.now _ _ n c.if-kind-eq-SUPER.true in
-    rw (h) (rw c.at_token-then-kind-eq-SUPER.ensures at (c.super_expr.ensures (lower (view c.args.t.now) c.args.levels)))
+    let h = primary_super (view c.args.t.now) (lower (view c.args.t.now) c.args.levels) c.args.p c.args.errors.now c.args.nodes.now _ _ n c.in-41.is in
+    rw (h) (rw c.at_token-in-41.ensures at (c.super_expr.ensures (lower (view c.args.t.now) c.args.levels)))
 
 pub primary-returns-in-Some-matches : goal.primary-returns-in-Some-matches
 unfolding run
 primary-returns-in-Some-matches t c =
     let n = peeked (view c.args.t.now) c.args.p.current _ c.peek-coming.ensures in
-    let h = primary_else (view c.args.t.now) (lower (view c.args.t.now) c.args.levels) c.args.p c.args.errors.now c.args.nodes.now _ _ n _ (unplaced _ _ c.literal_place.ensures c.in_default.is) refl c.if-kind-eq-IDENTIFIER.false c.if-kind-eq-LEFT_PAREN.false c.if-kind-eq-LEFT_BRACE.false c.if-kind-eq-LEFT_CURLY_BRACE.false c.if-kind-eq-FN.false c.if-kind-eq-THIS.false c.if-kind-eq-SUPER.false in
+    let h = primary_else (view c.args.t.now) (lower (view c.args.t.now) c.args.levels) c.args.p c.args.errors.now c.args.nodes.now _ _ n _ (unplaced _ _ c.literal_place.ensures c.in_default.is) refl (λ e. omega (arith, e)) (λ e. omega (arith, e)) (λ e. omega (arith, e)) (λ e. omega (arith, e)) (λ e. omega (arith, e)) (λ e. omega (arith, e)) (λ e. omega (arith, e)) in
     rw (h, ← c.matches.ensures, c.in-Some-matches.is) (rw (← (rw c.looked-s.ensures at c.at_token-in-Some-matches.ensures), ← c.empty.ensures c.args.errors.now))
 
-pub primary-returns : goal.primary-returns
+pub primary-returns-in_default-matches : goal.primary-returns-in_default-matches
 unfolding run
-primary-returns t c =
+primary-returns-in_default-matches t c =
     let n = peeked (view c.args.t.now) c.args.p.current _ c.peek-coming.ensures in
-    let h = primary_else (view c.args.t.now) (lower (view c.args.t.now) c.args.levels) c.args.p c.args.errors.now c.args.nodes.now _ _ n _ (unplaced _ _ c.literal_place.ensures c.in_default.is) refl c.if-kind-eq-IDENTIFIER.false c.if-kind-eq-LEFT_PAREN.false c.if-kind-eq-LEFT_BRACE.false c.if-kind-eq-LEFT_CURLY_BRACE.false c.if-kind-eq-FN.false c.if-kind-eq-THIS.false c.if-kind-eq-SUPER.false in
+    let h = primary_else (view c.args.t.now) (lower (view c.args.t.now) c.args.levels) c.args.p c.args.errors.now c.args.nodes.now _ _ n _ (unplaced _ _ c.literal_place.ensures c.in_default.is) refl (λ e. omega (arith, e)) (λ e. omega (arith, e)) (λ e. omega (arith, e)) (λ e. omega (arith, e)) (λ e. omega (arith, e)) (λ e. omega (arith, e)) (λ e. omega (arith, e)) in
     rw (h, ← c.matches.ensures, c.in_default-matches.is) (rw (← (rw c.looked-s.ensures at c.looked.ensures), ← c.fatal.ensures c.args.nodes.now))
 
 -- ---- ret
@@ -808,74 +808,74 @@ unfolding run
 slice-returns t c = rw (← c.matches.ensures, c.in_default.is, ← c.check.ensures) (rw (c.in_default-check.is, ← (rw c.looked-u.ensures at c.looked-v.ensures), ← c.is_at_end.ensures) (rw (c.if-is_at_end.false, ← c.assignment.ensures, c.in_ok-q.was) (rw (← c.matches-2.ensures, c.in-Some-matches.is, ← c.check-2.ensures) (rw (c.in_default-check-2.is, ← (rw c.at_token-s.ensures at c.looked-w.ensures), ← (rw c.at_token-s.ensures at c.is_at_end-2.ensures)) (rw (c.if-is_at_end-2.false, ← c.assignment-g-2.ensures, ← (rw (c.and-upto.ensures, c.new-from.ensures) at (c.step-2.ensures (lower (view c.args.t.now) c.args.levels)))))))))
 
 -- ---- stmt
-pub stmt-returns-then-kind-eq-FOR : goal.stmt-returns-then-kind-eq-FOR
+pub stmt-returns-in-33 : goal.stmt-returns-in-33
 unfolding run
-stmt-returns-then-kind-eq-FOR t c =
+stmt-returns-in-33 t c =
     let n = peeked (view c.args.t.now) c.args.p.current _ c.peek-coming.ensures in
-    let h = statement_for (view c.args.t.now) (lower (view c.args.t.now) c.args.levels) c.args.p c.args.errors.now c.args.nodes.now _ _ n c.if-kind-eq-FOR.true in
+    let h = statement_for (view c.args.t.now) (lower (view c.args.t.now) c.args.levels) c.args.p c.args.errors.now c.args.nodes.now _ _ n c.in-33.is in
     rw (h) (rw c.at_token.ensures at c.for_loop.ensures)
 
-pub stmt-returns-then-kind-eq-TRY : goal.stmt-returns-then-kind-eq-TRY
+pub stmt-returns-in-48 : goal.stmt-returns-in-48
 unfolding run
-stmt-returns-then-kind-eq-TRY t c =
+stmt-returns-in-48 t c =
     let n = peeked (view c.args.t.now) c.args.p.current _ c.peek-coming.ensures in
-    let h = statement_try (view c.args.t.now) (lower (view c.args.t.now) c.args.levels) c.args.p c.args.errors.now c.args.nodes.now _ _ n c.if-kind-eq-TRY.true in
-    rw (h) (rw c.at_token-then-kind-eq-TRY.ensures at c.try_catch.ensures)
+    let h = statement_try (view c.args.t.now) (lower (view c.args.t.now) c.args.levels) c.args.p c.args.errors.now c.args.nodes.now _ _ n c.in-48.is in
+    rw (h) (rw c.at_token-in-48.ensures at c.try_catch.ensures)
 
-pub stmt-returns-then-kind-eq-IF : goal.stmt-returns-then-kind-eq-IF
+pub stmt-returns-in-34 : goal.stmt-returns-in-34
 unfolding run
-stmt-returns-then-kind-eq-IF t c =
+stmt-returns-in-34 t c =
     let n = peeked (view c.args.t.now) c.args.p.current _ c.peek-coming.ensures in
-    let h = statement_if (view c.args.t.now) (lower (view c.args.t.now) c.args.levels) c.args.p c.args.errors.now c.args.nodes.now _ _ n c.if-kind-eq-IF.true in
-    rw (h) (rw c.at_token-then-kind-eq-IF.ensures at c.if_stmt.ensures)
+    let h = statement_if (view c.args.t.now) (lower (view c.args.t.now) c.args.levels) c.args.p c.args.errors.now c.args.nodes.now _ _ n c.in-34.is in
+    rw (h) (rw c.at_token-in-34.ensures at c.if_stmt.ensures)
 
-pub stmt-returns-then-kind-eq-RETURN : goal.stmt-returns-then-kind-eq-RETURN
+pub stmt-returns-in-38 : goal.stmt-returns-in-38
 unfolding run
-stmt-returns-then-kind-eq-RETURN t c =
+stmt-returns-in-38 t c =
     let n = peeked (view c.args.t.now) c.args.p.current _ c.peek-coming.ensures in
-    let h = statement_return (view c.args.t.now) (lower (view c.args.t.now) c.args.levels) c.args.p c.args.errors.now c.args.nodes.now _ _ n c.if-kind-eq-RETURN.true in
-    rw (h) (rw c.at_token-then-kind-eq-RETURN.ensures at c.ret.ensures)
+    let h = statement_return (view c.args.t.now) (lower (view c.args.t.now) c.args.levels) c.args.p c.args.errors.now c.args.nodes.now _ _ n c.in-38.is in
+    rw (h) (rw c.at_token-in-38.ensures at c.ret.ensures)
 
-pub stmt-returns-then-kind-eq-BREAK : goal.stmt-returns-then-kind-eq-BREAK
+pub stmt-returns-in-39 : goal.stmt-returns-in-39
 unfolding run brk cont
-stmt-returns-then-kind-eq-BREAK t c =
+stmt-returns-in-39 t c =
     let n = peeked (view c.args.t.now) c.args.p.current _ c.peek-coming.ensures in
-    let h = statement_break (view c.args.t.now) (lower (view c.args.t.now) c.args.levels) c.args.p c.args.errors.now c.args.nodes.now _ _ n c.if-kind-eq-BREAK.true in
-    rw (h) (rw c.at_token-then-kind-eq-BREAK.ensures at (c.jump.ensures (lower (view c.args.t.now) c.args.levels) c.args.t.now.index.now))
+    let h = statement_break (view c.args.t.now) (lower (view c.args.t.now) c.args.levels) c.args.p c.args.errors.now c.args.nodes.now _ _ n c.in-39.is in
+    rw (h) (rw c.at_token-in-39.ensures at (c.jump.ensures (lower (view c.args.t.now) c.args.levels) c.args.t.now.index.now))
 
-pub stmt-returns-then-kind-eq-CONTINUE : goal.stmt-returns-then-kind-eq-CONTINUE
+pub stmt-returns-in-40 : goal.stmt-returns-in-40
 unfolding run brk cont
-stmt-returns-then-kind-eq-CONTINUE t c =
+stmt-returns-in-40 t c =
     let n = peeked (view c.args.t.now) c.args.p.current _ c.peek-coming.ensures in
-    let h = statement_continue (view c.args.t.now) (lower (view c.args.t.now) c.args.levels) c.args.p c.args.errors.now c.args.nodes.now _ _ n c.if-kind-eq-CONTINUE.true in
-    rw (h) (rw c.at_token-then-kind-eq-CONTINUE.ensures at (c.jump-then-kind-eq-CONTINUE.ensures (lower (view c.args.t.now) c.args.levels) c.args.t.now.index.now))
+    let h = statement_continue (view c.args.t.now) (lower (view c.args.t.now) c.args.levels) c.args.p c.args.errors.now c.args.nodes.now _ _ n c.in-40.is in
+    rw (h) (rw c.at_token-in-40.ensures at (c.jump-in-40.ensures (lower (view c.args.t.now) c.args.levels) c.args.t.now.index.now))
 
-pub stmt-returns-then-kind-eq-WHILE : goal.stmt-returns-then-kind-eq-WHILE
+pub stmt-returns-in-45 : goal.stmt-returns-in-45
 unfolding run
-stmt-returns-then-kind-eq-WHILE t c =
+stmt-returns-in-45 t c =
     let n = peeked (view c.args.t.now) c.args.p.current _ c.peek-coming.ensures in
-    let h = statement_while (view c.args.t.now) (lower (view c.args.t.now) c.args.levels) c.args.p c.args.errors.now c.args.nodes.now _ _ n c.if-kind-eq-WHILE.true in
-    rw (h) (rw c.at_token-then-kind-eq-WHILE.ensures at c.while_stmt.ensures)
+    let h = statement_while (view c.args.t.now) (lower (view c.args.t.now) c.args.levels) c.args.p c.args.errors.now c.args.nodes.now _ _ n c.in-45.is in
+    rw (h) (rw c.at_token-in-45.ensures at c.while_stmt.ensures)
 
-pub stmt-returns-in_err-q : goal.stmt-returns-in_err-q
+pub stmt-returns-in_err-q-in-7 : goal.stmt-returns-in_err-q-in-7
 unfolding run
-stmt-returns-in_err-q t c =
+stmt-returns-in_err-q-in-7 t c =
     let n = peeked (view c.args.t.now) c.args.p.current _ c.peek-coming.ensures in
-    let h = statement_block (view c.args.t.now) (lower (view c.args.t.now) c.args.levels) c.args.p c.args.errors.now c.args.nodes.now _ _ n c.if-kind-eq-LEFT_CURLY_BRACE.true in
-    rw (given_up _ _ c.from_residual.ensures.1) (rw (h, ← c.at_token-then-kind-eq-LEFT_CURLY_BRACE.ensures, ← c.block.ensures) (rw c.in_err-q.was))
+    let h = statement_block (view c.args.t.now) (lower (view c.args.t.now) c.args.levels) c.args.p c.args.errors.now c.args.nodes.now _ _ n c.in-7.is in
+    rw (given_up _ _ c.from_residual.ensures.1) (rw (h, ← c.at_token-in-7.ensures, ← c.block.ensures) (rw c.in_err-q-in-7.was))
 
-pub stmt-returns-then-kind-eq-LEFT_CURLY_BRACE : goal.stmt-returns-then-kind-eq-LEFT_CURLY_BRACE
+pub stmt-returns-in_ok-q-in-7 : goal.stmt-returns-in_ok-q-in-7
 unfolding run
-stmt-returns-then-kind-eq-LEFT_CURLY_BRACE t c =
+stmt-returns-in_ok-q-in-7 t c =
     let n = peeked (view c.args.t.now) c.args.p.current _ c.peek-coming.ensures in
-    let h = statement_block (view c.args.t.now) (lower (view c.args.t.now) c.args.levels) c.args.p c.args.errors.now c.args.nodes.now _ _ n c.if-kind-eq-LEFT_CURLY_BRACE.true in
-    rw (h, ← c.at_token-then-kind-eq-LEFT_CURLY_BRACE.ensures, ← c.block.ensures) (rw (c.in_ok-q.was, ← c.row.ensures, ← c.make.ensures c.block.new.errors))
+    let h = statement_block (view c.args.t.now) (lower (view c.args.t.now) c.args.levels) c.args.p c.args.errors.now c.args.nodes.now _ _ n c.in-7.is in
+    rw (h, ← c.at_token-in-7.ensures, ← c.block.ensures) (rw (c.in_ok-q-in-7.was, ← c.row.ensures, ← c.make.ensures c.block.new.errors))
 
-pub stmt-returns : goal.stmt-returns
+pub stmt-returns-in_default : goal.stmt-returns-in_default
 unfolding run expression_stmt
-stmt-returns t c =
+stmt-returns-in_default t c =
     let n = peeked (view c.args.t.now) c.args.p.current _ c.peek-coming.ensures in
-    let h = statement_else (view c.args.t.now) (lower (view c.args.t.now) c.args.levels) c.args.p c.args.errors.now c.args.nodes.now _ _ n c.if-kind-eq-FOR.false c.if-kind-eq-TRY.false c.if-kind-eq-IF.false c.if-kind-eq-RETURN.false c.if-kind-eq-BREAK.false c.if-kind-eq-CONTINUE.false c.if-kind-eq-WHILE.false c.if-kind-eq-LEFT_CURLY_BRACE.false in
+    let h = statement_else (view c.args.t.now) (lower (view c.args.t.now) c.args.levels) c.args.p c.args.errors.now c.args.nodes.now _ _ n (λ e. omega (arith, e)) (λ e. omega (arith, e)) (λ e. omega (arith, e)) (λ e. omega (arith, e)) (λ e. omega (arith, e)) (λ e. omega (arith, e)) (λ e. omega (arith, e)) (λ e. omega (arith, e)) in
     rw (h, ← c.looked.ensures, ← c.assignment-g.ensures) (rw (← c.expression_stmt.ensures c.assignment-g.new.errors))
 
 -- ---- try_catch

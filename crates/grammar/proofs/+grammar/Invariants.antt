@@ -152,11 +152,11 @@ pub record CallInv (T : View) (l : ℕ) (E₀ N₀ : List ℕ) (e₀ : Found) (q
   pub errors : length E ≡ length E₀
   pub nodes : length N ≡ length N₀
 
-abbrev pub invariant-call-loop-errors : goal.invariant-call-loop-errors
-invariant-call-loop-errors l = CallInv (view l.t) l.levels l.initial.errors l.initial.nodes l.initial.e l.initial.q l.errors l.nodes l.e l.q
+abbrev pub invariant-call-loop-mark : goal.invariant-call-loop-mark
+invariant-call-loop-mark l = CallInv (view l.t) l.levels l.initial.errors l.initial.nodes l.initial.e l.initial.q l.errors l.nodes l.e l.q
 
-abbrev pub decreases-call-loop-errors : goal.decreases-call-loop-errors
-decreases-call-loop-errors l = count l.t.table.now - l.q.current
+abbrev pub decreases-call-loop-mark : goal.decreases-call-loop-mark
+decreases-call-loop-mark l = count l.t.table.now - l.q.current
 
 -- the branches of an `elif`
 pub record ElifsInv (T : View) (l : ℕ) (E₀ N₀ : List ℕ) (s₀ : State) (E N : List ℕ) (s : State) (first last : ℕ) : Type 0 where
