@@ -56,15 +56,16 @@ fn read_digits(s: &[u8], i: usize, m: u64) -> Digits
     ensures whole { result.whole ≡ capped (whole_of (front (drop i s.now)) m) }
 {
     let mut n = m;
-    for j in i..s.len() {
-        let c = s[j];
-        if !spans::is_digit(c) {
-            return Digits { end: j, whole: n };
+    let mut rest = s.get(i..).unwrap_or(&[]);
+    while let [c, next @ ..] = rest {
+        if !spans::is_digit(*c) {
+            break;
         }
-        n = grow(n, c - b'0');
+        n = grow(n, *c - b'0');
+        rest = next;
     }
     Digits {
-        end: s.len(),
+        end: s.len() - rest.len(),
         whole: n,
     }
 }
