@@ -1,7 +1,7 @@
 // The text test: bytes pass if they are well-formed by the Unicode Standard's table, which is what Rust accepts as a String.
 #![tactic(auto)]
 
-ghost use Rattle.std.specs.Prelude.{◌≡◌, []};
+ghost use Rattle.std.specs.Prelude.{◌≡◌, true, []};
 ghost use Rattle.text.specs.Text.{table, begins, behind, fits, after, is_text};
 ghost use Rattle.text.specs.Due.{columns_of};
 
@@ -9,7 +9,7 @@ ghost use Rattle.text.specs.Due.{columns_of};
 pub fn is_text(s: &[u8]) -> bool
     ensures { result ≡ is_text s.now }
 {
-    if s.is_ascii() {
+    if is_ascii(s) {
         return true;
     }
     let mut due = Due::none();
@@ -20,6 +20,31 @@ pub fn is_text(s: &[u8]) -> bool
         due = due.after(b);
     }
     due.left == 0
+}
+
+// So many bytes are many.
+const MANY: usize = 4096;
+
+// Whether no byte is over 7F, and then s is text. The library's test is the quicker one over few bytes, since it stops early; over many the largest byte is.
+fn is_ascii(s: &[u8]) -> bool
+    ensures { result ≡ true → is_text s.now ≡ true }
+{
+    if s.len() < MANY {
+        s.is_ascii()
+    } else {
+        largest_is_ascii(s)
+    }
+}
+
+// The same by the largest byte: the compiler takes many bytes at a time.
+fn largest_is_ascii(s: &[u8]) -> bool
+    ensures { result ≡ true → is_text s.now ≡ true }
+{
+    let mut top = 0;
+    for &b in s {
+        top = top.max(b);
+    }
+    top < 0x80
 }
 
 // What is due within a letter: how many bytes, and from what to what the next of them may be. Those after it are 80..BF.
