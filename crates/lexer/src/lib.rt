@@ -102,20 +102,31 @@ pub fn scan(rule: u32, source: &[u8], tokens: &mut [u32], errors: &mut [u32]) ->
     Scanned::from(try_scan(rule, source, tokens, errors))
 }
 
-// The same, as the state at the end or where it stops. A refusal keeps nothing.
+// A refusal keeps nothing.
+fn refused(outcome: Outcome) -> Stop
+    ensures { result ≡ record { outcome = outcome; tokens = 0; errors = 0 } }
+{
+    Stop {
+        outcome,
+        tokens: 0,
+        errors: 0,
+    }
+}
+
+// The same, as the state at the end or where it stops.
 #[tactic(auto, unfolding(crate::specs::Lex::lexed_of))]
 fn try_scan(rule: u32, source: &[u8], tokens: &mut [u32], errors: &mut [u32]) -> Result<Lexer, Stop>
     ensures { Lexing (lexed_of rule source.now (room token_width tokens.old) (room error_width errors.old))
         (answer_of result) tokens.old tokens.new errors.old errors.new }
 {
     if !rules::is_known(rule) {
-        return Err(Lexer::START.stop(Outcome::WrongRule));
+        return Err(refused(Outcome::WrongRule));
     }
     if source.len() > 65535 {
-        return Err(Lexer::START.stop(Outcome::TooLong));
+        return Err(refused(Outcome::TooLong));
     }
     if !text::is_text(source) {
-        return Err(Lexer::START.stop(Outcome::NotText));
+        return Err(refused(Outcome::NotText));
     }
     scan_tokens(rule, source, tokens, errors)
 }
