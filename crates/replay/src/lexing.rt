@@ -54,7 +54,11 @@ fn scan(rule: u32, source: &[u8], tokens: &mut [u32], errors: &mut [u32]) {
 
 // How many words from a place on are not as they were before.
 fn changed(t: &[u32], from: usize) -> usize {
-    t.iter().skip(from).filter(|w| **w != BEFORE).count()
+    let mut n = 0usize;
+    for word in t.get(from..).unwrap_or(&[]) {
+        n = n.wrapping_add(usize::from(*word != BEFORE));
+    }
+    n
 }
 
 // A token by its words: kind, bytes, line, where it begins, and value.
