@@ -13,10 +13,9 @@ fn main() {
 // A vector has a line of seven numbers with five digits each, as `Head` has them. The script follows, and a newline.
 const HEAD_BYTES: usize = 42;
 
-// The script's length in bytes, the rule, the way, and the sizes of the token, error and node table and of the index in words.
+// The rule, the way, and the sizes of the token, error and node table and of the index in words. The script's length stands before them.
 #[derive(Clone, Copy)]
 struct Head {
-    length: usize,
     rule: u32,
     way: u32,
     tokens: usize,
@@ -26,11 +25,10 @@ struct Head {
 }
 
 impl Head {
-    // The seven numbers of a line.
+    // The numbers of a line behind the first.
     fn of(line: &[u8]) -> Option<Head> {
-        let mut fields = line.chunks(6).map(number);
+        let mut fields = line.chunks(6).skip(1).map(number);
         Some(Head {
-            length: fields.next()? as usize,
             rule: fields.next()?,
             way: fields.next()?,
             tokens: fields.next()? as usize,
@@ -42,14 +40,20 @@ impl Head {
 }
 
 // The number whose five digits a field starts with. Any other byte counts as 0.
-fn number(field: &[u8]) -> u32 {
-    field.iter().take(5).fold(
-        0,
-        |n: u32, byte| n.saturating_mul(10).saturating_add(digit(*byte)),
-    )
+fn number(field: &[u8]) -> u32
+    ensures { result ≤ 99999 }
+{
+    match field {
+        [a, b, c, d, e, ..] => {
+            10000 * digit(*a) + 1000 * digit(*b) + 100 * digit(*c) + 10 * digit(*d) + digit(*e)
+        }
+        _ => 0,
+    }
 }
 
-fn digit(byte: u8) -> u32 {
+fn digit(byte: u8) -> u32
+    ensures { result ≤ 9 }
+{
     char::from(byte).to_digit(10).unwrap_or(0)
 }
 
@@ -68,13 +72,13 @@ fn vectors(s: &[u8]) {
     }
 }
 
-// Answers the vector that s starts with, and gives what follows its script.
+// Answers the vector that s starts with, and gives what follows its script. The length alone says whether one stands there.
 fn vector(s: &[u8]) -> Option<&[u8]>
     ensures { IfSome result (λ rest. length rest.now ≤ length s.now) }
 {
     let (line, rest) = s.split_at_checked(HEAD_BYTES)?;
+    let (source, rest) = rest.split_at_checked(number(line) as usize)?;
     let head = Head::of(line)?;
-    let (source, rest) = rest.split_at_checked(head.length)?;
     if answer(head, source).is_none() {
         unknown();
     }
