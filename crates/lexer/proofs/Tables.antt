@@ -5,7 +5,7 @@ use mathlib.Core.Bool.{Bool, true, false, not, ◌&&◌}
 use mathlib.Core.List.{List, [], ◌∷◌, ◌++◌}
 use Prim.Native.Nat.{ℕ, ◌+◌, ◌*◌, ◌≤◌, ◌<◌}
 use native.Mathlib.Omega.{arith}
-use borrow.Author.Tests.{ltb-true, ltb-false}
+use borrow.Author.Tests.{ltb-true, ltb-false, lt-ltb, le-ltb}
 use lib.Dec.{ltb, eqb}
 use lib.ListN.{length, take, drop, take-append-drop}
 use lib.Seq.{length-take-le, drop-drop}
@@ -19,13 +19,16 @@ use Rattle.records.specs.Outcomes.{outcome_number, number_at_end}
 use Rattle.records.specs.Outcomes as numbers
 use Rattle.records.proofs.Rooms.{room_fits, room_length, next_start}
 use Rattle.records.proofs.Put.{put_none, put_take, put_drop, put_length}
+use Rattle.text.specs.Text.{is_text}
+use Rattle.rules.specs.Rules.{known}
 use Rattle.lexer.specs.declared.Lexer.{Lexer}
+use Rattle.lexer.specs.declared.Scanned.{Scanned}
 use Rattle.std.specs.Prelude.{Ok, Err}
 use Rattle.lexer.specs.declared.Stop.{Stop}
 use Rattle.items.specs.declared.Item.{Item}
 use Rattle.items.specs.declared.Item.TheVariants.{Space, Comment, Name, Text, Number, Mark, Wrong}
 use Rattle.items.specs.Items.{items}
-use Rattle.lexer.specs.Lex.{State, Result, Onward, go, stop, pick_onward, kept, and_then, no_value, token, error, step, closing, finish, emit, lexed, Lexing}
+use Rattle.lexer.specs.Lex.{State, Result, Onward, go, stop, pick_onward, kept, and_then, no_value, token, error, step, closing, finish, emit, lexed, refusal, pick_result, lexed_of, Lexing}
 use Rattle.lexer.specs.Steps.{Next, stop_at, stopped, pick_next, Did, pick_did, on_in, emit_next, emit_table, emit_in, error_next, error_table, token_more, token_of, error_more, error_of, string_words, number_words, step_in, close_in, then_in, eof_in, finish_in, scan_in, start, answer_of, Does}
 
 -- ---- a table t that was u at first, with n records of w words written at its front
@@ -210,3 +213,45 @@ unfolding lexed
 lexes rule s u f u' f' r d =
     rw (d.next_is, d.tokens_are, d.errors_are)
     (scan_says u f (items rule s 0) start u f (record { same = refl; fits = omega arith; rest = refl }, record { same = refl; fits = omega arith; rest = refl }))
+
+-- ---- the entry: the rule is tested first, then the length, then the text
+module _ (rule : ℕ) (s u f u' f' : List ℕ) (r : Scanned) where
+  refusing : (o : ℕ) → r ≡ record { outcome = o; tokens = 0; errors = 0 } → u' ≡ u → f' ≡ f → Lexing (refusal o) r u u' f f'
+  refusing o e g h = record {
+    outcome_is = ap (λ (x : Scanned). x.outcome) e;
+    tokens_are = ap (λ (x : Scanned). x.tokens) e;
+    errors_are = ap (λ (x : Scanned). x.errors) e;
+    token_table = g;
+    error_table_lem = h;
+  }
+
+  -- by the three tests
+  abbrev tested : Bool → Bool → Bool → Result
+  tested k a b = pick_result (not k) (refusal numbers.wrong_rule) (pick_result a (refusal numbers.too_long) (pick_result (not b) (refusal numbers.not_text) (lexed rule s (room token_width u) (room error_width f))))
+
+  abbrev Lexes : Result → Type 0
+  Lexes d = Lexing d r u u' f f'
+
+  by : (k a b : Bool) → known rule ≡ k → ltb 65535 (length s) ≡ a → is_text s ≡ b → Lexes (tested k a b) → Lexes (lexed_of rule s (room token_width u) (room error_width f))
+  unfolding lexed_of
+  by k a b e g h d =
+      subst⁻¹ (λ (c : Bool). Lexes (tested c (ltb 65535 (length s)) (is_text s))) e
+      (subst⁻¹ (λ (c : Bool). Lexes (tested k c (is_text s))) g
+      (subst⁻¹ (λ (c : Bool). Lexes (tested k a c)) h d))
+
+  pub wrong_rule_case : known rule ≡ false → r ≡ record { outcome = numbers.wrong_rule; tokens = 0; errors = 0 } → u' ≡ u → f' ≡ f
+      → Lexes (lexed_of rule s (room token_width u) (room error_width f))
+  wrong_rule_case w e g h = by false (ltb 65535 (length s)) (is_text s) w refl refl (refusing numbers.wrong_rule e g h)
+
+  pub too_long_case : known rule ≡ true → 65535 < length s → r ≡ record { outcome = numbers.too_long; tokens = 0; errors = 0 } → u' ≡ u → f' ≡ f
+      → Lexes (lexed_of rule s (room token_width u) (room error_width f))
+  too_long_case w l e g h = by true true (is_text s) w (lt-ltb _ _ l) refl (refusing numbers.too_long e g h)
+
+  pub no_text : known rule ≡ true → length s ≤ 65535 → is_text s ≡ false → r ≡ record { outcome = numbers.not_text; tokens = 0; errors = 0 } → u' ≡ u → f' ≡ f
+      → Lexes (lexed_of rule s (room token_width u) (room error_width f))
+  no_text w l n e g h = by true false false w (le-ltb _ _ l) n (refusing numbers.not_text e g h)
+
+-- and where all three pass, what the code did is the lexing
+pub text_case : (rule : ℕ) (s u f u' f' : List ℕ) (r : Next) → known rule ≡ true → length s ≤ 65535 → is_text s ≡ true
+    → Does (scan_in (items rule s 0) start u f) r u' f' → Lexing (lexed_of rule s (room token_width u) (room error_width f)) (answer_of r) u u' f f'
+text_case rule s u f u' f' r w l n d = by rule s u f u' f' (answer_of r) true false true w (le-ltb _ _ l) n (lexes rule s u f u' f' r d)

@@ -1,3 +1,4 @@
+pub mod Stores
 pub mod Rooms
 pub mod Put
 pub mod Field

@@ -1,15 +1,16 @@
 -- What a push leaves: the record, and everything else as it was; nothing where there is no room. Assumes nothing.
 use mathlib.Core.Path.{◌≡◌, sym, ap, ◌∙◌}
 use mathlib.Core.Bool.{true, false}
-use mathlib.Core.List.{List, ◌++◌, append_assoc}
+use mathlib.Core.List.{List, ◌∷◌, ◌++◌, append_assoc}
 use mathlib.Core.Logic.{⊎_elim}
-use Prim.Native.Nat.{ℕ, ◌+◌, ◌*◌, ◌≤◌, ◌<◌}
+use Prim.Native.Nat.{ℕ, suc, ◌+◌, ◌*◌, ◌≤◌, ◌<◌}
 use native.Mathlib.Omega.{arith}
 use borrow.Author.Tests.{lt-ltb, le-ltb}
-use lib.ListN.{length, take, drop, length-append, length-take, length-drop}
+use lib.ListN.{length, take, drop, set, length-append, length-take, length-drop}
 use borrow.Rule.Slice.PartMut.{mid_of, put_mid}
 use lib.Seq.{length-take-le, take_at, drop_at, drop-drop}
 use Rattle.records.specs.Table.{room, put, Pushed}
+use Rattle.records.proofs.Stores.{stores, stored}
 use Rattle.records.proofs.Rooms.{room_fits, next_start, lt_or_le}
 
 -- where there is room, and where there is none
@@ -60,6 +61,14 @@ pub pushed : (w : ℕ) (t : List ℕ) (n : ℕ) (ws us : List ℕ) (v k : ℕ) �
 pushed w t n ws us v k e f g h = record {
   answer = sym (lt-ltb _ _ h);
   table = rw (e, f, g, put_room w t n ws h, drop-drop w (w * n) t) (sym (append_assoc (take (w * n) t) ws (drop (w * n + w) t)));
+}
+
+-- a push that stores its words one after another, where there is room
+pub pushed_in_turn : (t : List ℕ) (n a : ℕ) (vs : List ℕ) → n < room (suc (length vs)) t
+    → Pushed (suc (length vs)) t n (a ∷ vs) true (stores (set t (suc (length vs) * n) a) (suc (length vs) * n) 1 vs)
+pushed_in_turn t n a vs h = record {
+  answer = sym (lt-ltb _ _ h);
+  table = stored t (suc (length vs) * n) a vs (room_fits (suc (length vs)) t n h) ∙ sym (put_room (suc (length vs)) t n (a ∷ vs) h);
 }
 
 -- a push that stores nothing, where there is none

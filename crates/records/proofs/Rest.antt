@@ -1,15 +1,16 @@
 -- A node linked to the next one, and the words past the last record set to 0. Assumes nothing.
 use mathlib.Core.Path.{◌≡◌, refl, sym, ap, ◌∙◌}
 use mathlib.Core.Bool.{Bool, true, false, cond, ◌&&◌}
-use mathlib.Core.List.{List, [], ◌++◌, append-nil}
+use mathlib.Core.List.{List, [], ◌∷◌, ◌++◌, append-nil}
 use mathlib.Core.Logic.{◌⊎◌, ⊎_elim}
 use Prim.Native.Nat.{ℕ, ◌+◌, ◌*◌, ◌-◌, ◌≤◌, ◌<◌, min}
+use native.Mathlib.Numerals.{add-one}
 use native.Mathlib.Omega.{arith}
 use borrow.Author.Tests.{le-leb, lt-leb}
 use lib.Dec.{leb}
 use lib.ListN.{length, get_or, take, drop, set, drop_of_length-le, length-drop, replicate, length-append, length-take, length-set, length-replicate, get_or-replicate}
 use borrow.Rule.Slice.PartMut.{mid_of, put_mid}
-use lib.Seq.{length-take-le, take_at, take-take, get_or-append-add}
+use lib.Seq.{length-take-le, take_all, take-suc, take-suc-set, take_at, take-take, get_or-append-add}
 use Rattle.std.proofs.lemmas.List.{take_min}
 use Rattle.records.specs.Table.{node_width, room, linked, zeroed}
 use Rattle.records.proofs.Rooms.{lt_or_le}
@@ -65,3 +66,19 @@ module _ (w : ℕ) (t : List ℕ) (n : ℕ) where
       let long : length (mid_of at (length t - at) t) ≡ length t - w * n = simp (length-take, length-drop) (omega arith) in
       let none : drop (length t - at) (drop at t) ≡ [] = drop_of_length-le (drop at t) (omega (arith, length-drop at t)) in
       rw (none, g, front, long, append-nil) refl
+
+  -- a turn of a loop that zeroes word by word, where u is right up to word i; and its end
+  pub zero_more : (u : List ℕ) (i : ℕ) → w * n ≤ i → i < length t → length u ≡ length t → take i u ≡ take i (zeroed w t n)
+      → take (i + 1) (set u i 0) ≡ take (i + 1) (zeroed w t n)
+  zero_more u i p h l e =
+      let z : length (zeroed w t n) ≡ length t = zeroed_length in
+      rw add-one
+      (take-suc-set u i 0 (omega arith)
+      ∙ ap (λ (x : List ℕ). x ++ (0 ∷ [])) e
+      ∙ ap (λ (x : ℕ). take i (zeroed w t n) ++ (x ∷ [])) (sym (zeroed_word i p h))
+      ∙ sym (take-suc (zeroed w t n) i 0 (omega arith)))
+
+  pub zero_all : (u : List ℕ) (i : ℕ) → length t ≤ i → length u ≡ length t → take i u ≡ take i (zeroed w t n) → u ≡ zeroed w t n
+  zero_all u i h l e =
+      let z : length (zeroed w t n) ≡ length t = zeroed_length in
+      sym (take_all i u (omega arith)) ∙ e ∙ take_all i (zeroed w t n) (omega arith)
