@@ -28,10 +28,10 @@ pub fn read(
     let p = statements::parse(rule, tokens, errors, nodes, index, d.errors);
     Answer {
         outcome: p.outcome,
+        tokens: d.tokens,
         errors: p.errors,
         nodes: p.nodes,
         first: p.first,
         looks: p.looks,
-        ..lexed
     }
 }

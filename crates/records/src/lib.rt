@@ -125,17 +125,17 @@ impl Record for Node {
 
     const WIDTH: usize = NODE_WIDTH;
 
-    fn write(self, to: &mut [u32]) {
-        if to.len() == NODE_WIDTH {
-            to[0] = self.kind;
-            to[1] = self.token1;
-            to[2] = self.token2;
-            to[3] = self.token3;
-            to[4] = self.child1;
-            to[5] = self.child2;
-            to[6] = self.child3;
-            to[7] = self.child4;
-            to[8] = self.next;
+    fn write(self, node: &mut [u32]) {
+        if node.len() == NODE_WIDTH {
+            node[0] = self.kind;
+            node[1] = self.token1;
+            node[2] = self.token2;
+            node[3] = self.token3;
+            node[4] = self.child1;
+            node[5] = self.child2;
+            node[6] = self.child3;
+            node[7] = self.child4;
+            node[8] = self.next;
         }
     }
 }

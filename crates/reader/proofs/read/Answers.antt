@@ -10,4 +10,4 @@ returns-then-d c =
 pub returns : goal.returns
 returns c =
     let a = c.args in
-    rw c.from-lexed.ensures (goes_on_lem a.rule a.way a.source.now a.tokens.now a.errors.now a.nodes.now a.index.now _ _ _ _ _ c.enter-d.ensures _ _ _ c.if-d.false c.parse-p.ensures)
+    goes_on_lem a.rule a.way a.source.now a.tokens.now a.errors.now a.nodes.now a.index.now _ _ _ _ _ c.enter-d.ensures _ _ _ c.if-d.false c.parse-p.ensures
