@@ -19,14 +19,14 @@ impl<'a> Fields<'a> {
 
     // The next field, a number.
     pub(crate) fn number(&mut self) -> Option<u64> {
-        let field = self.rest.strip_prefix(b" ")?;
-        let size = field.iter().take_while(|c| c.is_ascii_digit()).count();
-        if size == 0 {
-            return None;
+        let mut field = self.rest.strip_prefix(b" ")?;
+        let mut value = None;
+        while let [c @ b'0'..=b'9', next @ ..] = field {
+            value = Some(grow(value.unwrap_or(0), *c));
+            field = next;
         }
-        let (digits, rest) = field.split_at_checked(size)?;
-        self.rest = rest;
-        Some(digits.iter().fold(0, |value, c| grow(value, *c)))
+        self.rest = field;
+        value
     }
 
     // The next field, a byte string, decoded to the front of out. It gives its length.

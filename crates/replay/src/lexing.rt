@@ -19,6 +19,11 @@ pub(crate) fn vector(mut fields: Fields) -> Option<()> {
     let t = fields.number()? as usize;
     let e = fields.number()? as usize;
     fields.end()?;
+    on_source(rule, source, t, e)
+}
+
+// The tables are in a function of their own: a function pays at entry for the room of its arrays, and what is no vector is not to.
+fn on_source(rule: u32, source: &[u8], t: usize, e: usize) -> Option<()> {
     let mut tokens = [BEFORE; MOST_WORDS];
     let mut errors = [BEFORE; MOST_WORDS];
     scan(rule, source, tokens.get_mut(..t)?, errors.get_mut(..e)?);
