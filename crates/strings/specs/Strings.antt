@@ -1,5 +1,5 @@
 -- Strings (docs/RULES.md, 'Strings'): lexing's rule 5, from the byte after the opening quote, and the bytes that a string stands for.
-use Rattle.std.specs.Prelude.{ℕ, ◌+◌, ◌≤◌, ◌≡◌, Bool, true, false, not, cond, if◌then◌else◌, Option, Some, None, Result, Ok, Err, List, [], ◌∷◌, eqb}
+use Rattle.std.specs.Prelude.{ℕ, ◌+◌, ◌≤◌, ◌≡◌, Bool, true, false, not, cond, if◌then◌else◌, Option, Some, None, Result, Ok, Err, List, [], ◌∷◌, eqb, ◌<◌, length, drop}
 use Rattle.std.specs.declared.ops.ControlFlow.{ControlFlow}
 use Rattle.std.specs.declared.ops.ControlFlow.TheVariants.{Continue, Break}
 use Rattle.strings.specs.declared.Reading.{Reading}
@@ -63,6 +63,15 @@ and_then (Break r) k = r
 abbrev pub read_of : List ℕ → Reading → Ended
 read_of [] t = broken t.at t.lines
 read_of (b ∷ s) t = and_then (step_of t.escaped t.at t.length t.lines b) (read_of s)
+
+-- neither the decoded bytes nor the newlines are more than the bytes passed
+abbrev pub Counted : Reading → Type 0
+Counted t = (t.length ≤ t.at) × (t.lines ≤ t.at)
+
+-- over the bytes s: the reading goes on from a later state, from which it comes to the same, or it has ended, and this is what it comes to
+abbrev pub Passed : List ℕ → Reading → Step → Type 0
+Passed s t (Continue u) = (t.at < u.at) × (u.at ≤ length s) × Counted u × (read_of (drop t.at s) t ≡ read_of (drop u.at s) u)
+Passed s t (Break r) = read_of (drop t.at s) t ≡ r
 
 -- after the opening quote nothing is passed yet
 abbrev pub begun : Reading

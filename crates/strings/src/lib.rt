@@ -2,7 +2,7 @@
 #![tactic(auto)]
 
 ghost use Rattle.std.specs.Prelude.{◌≡◌, ◌<◌, ◌^◌, drop};
-ghost use Rattle.strings.specs.Strings.{escape_of, Grown, step_of, read_of, begun};
+ghost use Rattle.strings.specs.Strings.{escape_of, Grown, step_of, read_of, begun, Counted, Passed};
 
 use std::ops::ControlFlow;
 
@@ -87,19 +87,43 @@ fn pass(t: Reading, b: u8) -> ControlFlow<Result<Closed, Broken>, Reading>
     }
 }
 
+// The next byte. At the end there is none, and the string is broken.
+fn step(t: Reading, s: &[u8]) -> ControlFlow<Result<Closed, Broken>, Reading>
+    requires { Counted t }
+    ensures { Passed s.now t result }
+{
+    match s.get(t.at) {
+        Some(&b) => pass(t, b),
+        None => ControlFlow::Break(Err(Broken {
+            size: t.at,
+            lines: t.lines,
+        })),
+    }
+}
+
+// One turn. A backslash takes the byte after it along. So no turn begins behind a backslash, and plain bytes, which are most, need no test for one.
+fn turn(t: Reading, s: &[u8]) -> ControlFlow<Result<Closed, Broken>, Reading>
+    requires { Counted t }
+    ensures { Passed s.now t result }
+{
+    let next = step(t, s)?;
+    if next.escaped {
+        step(next, s)
+    } else {
+        ControlFlow::Continue(next)
+    }
+}
+
 // Rule 5, read from the byte after the opening quote. Past the end there is nothing to read, and the string is broken.
 pub fn string(s: &[u8], from: usize) -> Result<Closed, Broken>
     ensures { result ≡ read_of (drop from s.now) begun }
 {
+    let rest = s.get(from..).unwrap_or(&[]);
     let mut t = Reading::default();
-    for b in s.get(from..).unwrap_or(&[]) {
-        match pass(t, *b) {
+    loop {
+        match turn(t, rest) {
             ControlFlow::Continue(next) => t = next,
             ControlFlow::Break(ended) => return ended,
         }
     }
-    Err(Broken {
-        size: t.at,
-        lines: t.lines,
-    })
 }
