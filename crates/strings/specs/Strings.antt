@@ -64,15 +64,6 @@ abbrev pub read_of : List ℕ → Reading → Ended
 read_of [] t = broken t.at t.lines
 read_of (b ∷ s) t = and_then (step_of t.escaped t.at t.length t.lines b) (read_of s)
 
--- neither the decoded bytes nor the newlines are more than the bytes passed
-abbrev pub Counted : Reading → Type 0
-Counted t = (t.length ≤ t.at) × (t.lines ≤ t.at)
-
--- over the bytes s: the reading goes on from a later state, from which it comes to the same, or it has ended, and this is what it comes to
-abbrev pub Passed : List ℕ → Reading → Step → Type 0
-Passed s t (Continue u) = (t.at < u.at) × (u.at ≤ length s) × Counted u × (read_of (drop t.at s) t ≡ read_of (drop u.at s) u)
-Passed s t (Break r) = read_of (drop t.at s) t ≡ r
-
 -- after the opening quote nothing is passed yet
 abbrev pub begun : Reading
 begun = record { escaped = false; at = 0; length = 0; lines = 0 }
@@ -92,3 +83,14 @@ abbrev pub decoded_from : List ℕ → Bool → List ℕ
 decoded_from [] e = []
 decoded_from (b ∷ s) true = unescaped b ∷ decoded_from s false
 decoded_from (b ∷ s) false = unless_closed (eqb b 34) (plain (eqb b 92) b (decoded_from s (eqb b 92)))
+
+-- The rest is for the clauses of the code's private functions, and no part of rule 5.
+
+-- neither the decoded bytes nor the newlines are more than the bytes passed
+abbrev pub Counted : Reading → Type 0
+Counted t = (t.length ≤ t.at) × (t.lines ≤ t.at)
+
+-- over the bytes s: the reading goes on from a later state, from which it comes to the same, or it has ended, and this is what it comes to
+abbrev pub Passed : List ℕ → Reading → Step → Type 0
+Passed s t (Continue u) = (t.at < u.at) × (u.at ≤ length s) × Counted u × (read_of (drop t.at s) t ≡ read_of (drop u.at s) u)
+Passed s t (Break r) = read_of (drop t.at s) t ≡ r
